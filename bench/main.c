@@ -1,0 +1,328 @@
+/* bench [--quick]: how long appends, reads, openings and checksums take, beside the same log by hand in C, memcpy, liblzma and libpmemlog. Medians
+ * of five rounds, in which all are measured in turn; in nanoseconds and as ratios. Before that the two logs are held against each other,
+ * byte for byte. --quick: one short round, which shows that everything works and no time. */
+#define _GNU_SOURCE
+#include "subject.h"
+#include <inttypes.h>
+#include <stdio.h>
+#include <stdlib.h>
+#include <string.h>
+#include <time.h>
+#ifdef HAVE_LZMA
+#include <lzma.h>
+#endif
+#ifdef HAVE_PMEMLOG
+#include <libpmemlog.h>
+#include <unistd.h>
+#endif
+
+enum { ROUNDS = 5, RING = 1 << 20, MEDIUM = 72 + RING, LARGEST = 4096, CELLS = 64 };
+
+static uint8_t *medium;
+static uint8_t payload[LARGEST], out[LARGEST];
+static int quick;
+
+static void fail(const char *what)
+{
+    fprintf(stderr, "bench: %s\n", what);
+    exit(1);
+}
+
+static double now(void)
+{
+    struct timespec t;
+    clock_gettime(CLOCK_MONOTONIC, &t);
+    return (double)t.tv_sec * 1e9 + (double)t.tv_nsec;
+}
+
+/* ---- one cell of the table: a name, and a time for each round */
+
+typedef struct {
+    double times[ROUNDS];
+    int rounds;
+} cell;
+
+static void note(cell *c, double ns)
+{
+    c->times[c->rounds++] = ns;
+}
+
+static int by_size(const void *a, const void *b)
+{
+    const double x = *(const double *)a, y = *(const double *)b;
+    return (x > y) - (x < y);
+}
+
+static double median(cell *c)
+{
+    qsort(c->times, (size_t)c->rounds, sizeof *c->times, by_size);
+    return c->times[c->rounds / 2];
+}
+
+/* ---- what is measured: nanoseconds for one */
+
+static size_t many(size_t usual)
+{
+    return quick ? usual / 50 + 2 : usual;
+}
+
+static double appends(const subject *s, size_t n)
+{
+    const size_t lap = (RING - 1) / n;
+    size_t left = many(40000);
+    const size_t total = left;
+    double spent = 0;
+    s->setup(medium, MEDIUM);
+    while (left != 0) {
+        const size_t times = left < lap ? left : lap;
+        const double from = now();
+        if (!s->append(medium, MEDIUM, payload, n, times)) {
+            fail("an append was refused");
+        }
+        spent += now() - from;
+        if (!s->release(medium, MEDIUM)) {
+            fail("a release was refused");
+        }
+        left -= times;
+    }
+    return spent / (double)total;
+}
+
+static double copies(size_t n)
+{
+    const size_t lap = RING / n, total = many(400000);
+    size_t i;
+    const double from = now();
+    for (i = 0; i < total; i++) {
+        memcpy(medium + 72 + i % lap * n, payload, n);
+        __asm__ volatile("" ::: "memory");
+    }
+    return (now() - from) / (double)total;
+}
+
+static double reads(const subject *s, size_t n)
+{
+    const size_t times = many(200000);
+    double from;
+    s->setup(medium, MEDIUM);
+    if (!s->append(medium, MEDIUM, payload, n, 10)) {
+        fail("an append was refused");
+    }
+    from = now();
+    if (!s->read(medium, MEDIUM, out, n, times) || memcmp(out, payload, n) != 0) {
+        fail("a read was refused or wrong");
+    }
+    return (now() - from) / (double)times;
+}
+
+static double openings(const subject *s)
+{
+    const size_t times = many(100000);
+    double from;
+    s->setup(medium, MEDIUM);
+    from = now();
+    if (!s->open(medium, MEDIUM, times)) {
+        fail("an opening was refused");
+    }
+    return (now() - from) / (double)times;
+}
+
+static volatile uint64_t sink;
+
+static double checksums(const subject *s, size_t n)
+{
+    const size_t times = many(n > 1000 ? 5000 : 200000);
+    const double from = now();
+    sink = s->crc(payload, n, times);
+    return (now() - from) / (double)times;
+}
+
+#ifdef HAVE_LZMA
+static double lzma_checksums(size_t n)
+{
+    const size_t times = many(n > 1000 ? 5000 : 200000);
+    const double from = now();
+    uint64_t sum = 0;
+    size_t i;
+    for (i = 0; i < times; i++) {
+        sum += lzma_crc64(payload, n, 0);
+    }
+    sink = sum;
+    return (now() - from) / (double)times;
+}
+#endif
+
+#ifdef HAVE_PMEMLOG
+static PMEMlogpool *pool;
+
+static void make_pool(void)
+{
+    static char path[] = "/dev/shm/blackboxlog-bench-XXXXXX";
+    const int file = mkstemp(path);
+    if (file < 0) {
+        fail("no file for libpmemlog");
+    }
+    close(file);
+    unlink(path);
+    pool = pmemlog_create(path, PMEMLOG_MIN_POOL, 0600);
+    if (pool == NULL) {
+        fail(pmemlog_errormsg());
+    }
+    unlink(path);
+}
+
+static double pmemlog_appends(size_t n)
+{
+    const size_t lap = (RING - 1) / n;
+    size_t left = many(40000);
+    const size_t total = left;
+    double spent = 0;
+    while (left != 0) {
+        const size_t times = left < lap ? left : lap;
+        size_t i;
+        double from;
+        pmemlog_rewind(pool);
+        from = now();
+        for (i = 0; i < times; i++) {
+            if (pmemlog_append(pool, payload, n) != 0) {
+                fail(pmemlog_errormsg());
+            }
+        }
+        spent += now() - from;
+        left -= times;
+    }
+    return spent / (double)total;
+}
+#endif
+
+/* ---- the two logs must leave the same bytes, or there is nothing to compare */
+
+static void same_bytes(const subject *a, const subject *b)
+{
+    static const size_t lengths[] = {1, 64, 300, 4096, 7, 4000, 0, 4096};
+    uint8_t *const first = aligned_alloc(64, 16384), *const second = aligned_alloc(64, 16384);
+    const size_t length = 72 + 10000;
+    size_t i, k;
+    if (first == NULL || second == NULL) {
+        fail("no memory");
+    }
+    memset(first, 0, 16384);
+    memset(second, 0, 16384);
+    a->setup(first, length);
+    b->setup(second, length);
+    for (i = 0; i < 20; i++) {
+        const size_t n = lengths[i % 8];
+        for (k = 0; k < 2; k++) {
+            if (a->append(first, length, payload, n, 1) != b->append(second, length, payload, n, 1) || memcmp(first, second, length) != 0) {
+                fail("the two logs differ");
+            }
+        }
+        if (!a->release(first, length) || !b->release(second, length) || memcmp(first, second, length) != 0) {
+            fail("the two logs differ");
+        }
+        if (!a->open(second, length, 1) || !b->open(first, length, 1)) {
+            fail("one log does not open the other's medium");
+        }
+    }
+    for (k = 0; k < LARGEST; k += 97) {
+        if (a->crc(payload, k, 1) != b->crc(payload, k, 1)) {
+            fail("the two checksums differ");
+        }
+    }
+    free(first);
+    free(second);
+}
+
+/* ---- the table */
+
+static cell cells[CELLS];
+
+static void row(const char *what, size_t n, int ours, int hand, int other, const char *other_name, int third, const char *third_name)
+{
+    const double a = median(&cells[ours]), b = median(&cells[hand]);
+    char size[16] = "", others[96] = "";
+    size_t used = 0;
+    if (n != 0) {
+        snprintf(size, sizeof size, "%zu", n);
+    }
+    if (other >= 0) {
+        used = (size_t)snprintf(others, sizeof others, "%s %.1f (%.2f)", other_name, median(&cells[other]), a / median(&cells[other]));
+    }
+    if (third >= 0) {
+        snprintf(others + used, sizeof others - used, "%s%s %.1f (%.2f)", used ? ", " : "", third_name, median(&cells[third]), a / median(&cells[third]));
+    }
+    printf("| %s | %s | %.1f | %.1f | %.2f | %s |\n", what, size, a, b, a / b, others);
+}
+
+int main(int count, char **words)
+{
+    static const size_t sizes[] = {64, 300, 4096};
+    static const size_t sums[] = {24, 4096};
+    const char *by;
+    size_t i;
+    int round, rounds;
+    quick = count > 1 && strcmp(words[1], "--quick") == 0;
+    rounds = quick ? 1 : ROUNDS;
+    medium = aligned_alloc(64, MEDIUM + 64 - MEDIUM % 64);
+    if (medium == NULL) {
+        fail("no memory");
+    }
+    memset(medium, 0, MEDIUM);
+    for (i = 0; i < LARGEST; i++) {
+        payload[i] = (uint8_t)(i * 7 + 1);
+    }
+    by = choose_write_back();
+    same_bytes(&ours_plain, &peer_plain);
+    same_bytes(&ours_flushed, &peer_flushed);
+#ifdef HAVE_PMEMLOG
+    if (getenv("PMEM_NO_FLUSH") == NULL || getenv("PMEM_IS_PMEM_FORCE") == NULL) {
+        fail("PMEM_NO_FLUSH and PMEM_IS_PMEM_FORCE are not set; bench/run sets them");
+    }
+    make_pool();
+#endif
+    for (round = 0; round < rounds; round++) {
+        for (i = 0; i < 3; i++) {
+            cell *const c = &cells[10 * i];
+            note(&c[0], appends(&ours_plain, sizes[i]));
+            note(&c[1], appends(&peer_plain, sizes[i]));
+            note(&c[2], appends(&ours_flushed, sizes[i]));
+            note(&c[3], appends(&peer_flushed, sizes[i]));
+            note(&c[4], copies(sizes[i]));
+            note(&c[5], reads(&ours_plain, sizes[i]));
+            note(&c[6], reads(&peer_plain, sizes[i]));
+#ifdef HAVE_PMEMLOG
+            note(&c[7], pmemlog_appends(sizes[i]));
+#endif
+        }
+        note(&cells[30], openings(&ours_plain));
+        note(&cells[31], openings(&peer_plain));
+        for (i = 0; i < 2; i++) {
+            note(&cells[40 + 10 * i], checksums(&ours_plain, sums[i]));
+            note(&cells[41 + 10 * i], checksums(&peer_plain, sums[i]));
+#ifdef HAVE_LZMA
+            note(&cells[42 + 10 * i], lzma_checksums(sums[i]));
+#endif
+        }
+    }
+    printf("| what | bytes | Blackboxlog, ns | C by hand, ns | ratio | others, ns (ratio to them) |\n| --- | --- | --- | --- | --- | --- |\n");
+    for (i = 0; i < 3; i++) {
+        const int c = 10 * (int)i;
+        row("append, hooks empty", sizes[i], c, c + 1, c + 4, "memcpy", cells[c + 7].rounds ? c + 7 : -1, "libpmemlog");
+    }
+    for (i = 0; i < 3; i++) {
+        const int c = 10 * (int)i;
+        char what[48];
+        snprintf(what, sizeof what, "append, %s and sfence", by);
+        row(what, sizes[i], c + 2, c + 3, -1, "", -1, "");
+    }
+    for (i = 0; i < 3; i++) {
+        const int c = 10 * (int)i;
+        row("read", sizes[i], c + 5, c + 6, c + 4, "memcpy", -1, "");
+    }
+    row("open", 0, 30, 31, -1, "", -1, "");
+    for (i = 0; i < 2; i++) {
+        const int c = 40 + 10 * (int)i;
+        row("checksum", sums[i], c, c + 1, cells[c + 2].rounds ? c + 2 : -1, "liblzma", -1, "");
+    }
+    return 0;
+}

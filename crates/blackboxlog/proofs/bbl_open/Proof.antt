@@ -1,0 +1,24 @@
+use borrow.Author.Needs.{needs}
+use mathlib.Core.Path.{ap, _∙_}
+use Rattle.blackboxlog.specs.Replies.{openedReply}
+use Rattle.blackboxlog.proofs.bbl_open.Statement.{statement}
+use Rattle.blackboxlog.proofs.bbl_open.Tie as tie
+use Rattle.blackboxlog.proofs.bbl_open.Reads as reads
+use Rattle.blackboxlog.proofs.bbl_open.Lts as lts
+use Rattle.blackboxlog.proofs.opened_reply.Reads as opened-reply-reads
+use Rattle.operations.proofs.start.Reads as start-reads
+
+-- src/lib.rt:259:18
+start-requires : tie.Need-start-requires
+start-requires c κs = search needs
+
+-- src/lib.rt:259:5
+opened-reply-requires : tie.Need-opened-reply-requires
+opened-reply-requires c κs = search needs
+
+-- src/lib.rt:255:1
+returns : tie.Need-returns
+returns c = c .opened-reply .ensures ∙ ap openedReply (c .before .start .ensures)
+
+pub bbl-open-spec : {M : Type 1} → statement M
+bbl-open-spec = tie.close (tie.spec start-requires opened-reply-requires returns)

@@ -1,0 +1,3 @@
+pub mod Crc64
+pub mod Damage
+pub mod Examples

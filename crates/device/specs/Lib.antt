@@ -1,0 +1,4 @@
+pub mod Device
+pub mod Found
+pub mod Remarks
+pub mod Word

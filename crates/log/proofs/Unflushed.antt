@@ -1,0 +1,78 @@
+-- Why each flush is needed: the smallest cuts that break the plans without it, as closed examples. Each medium and each answer is computed.
+-- Assumes nothing.
+use mathlib.Core.Path.{_≡_, refl}
+use mathlib.Core.Bool.{true, false}
+use mathlib.Core.List.{List, [], _∷_, _++_, map, List·Memᴰ}
+use Prim.Native.Nat.{ℕ}
+use native.Mathlib.Omega.{arith}
+use lib.ListN.{replicate}
+use Rattle.device.specs.Device.{Write, write, run, put, still, seen, step, after, final, Left, apply, commit}
+use Rattle.device.specs.Word.{low, wordAt, le}
+use Rattle.device.proofs.Cuts.{InPiece, one-arrives}
+use Rattle.crc64.specs.Crc64.{bits, bitsOf, number, onto, divide, remainder, generator, crcOf}
+use Rattle.log.specs.Format.{header, content}
+use Rattle.log.specs.Log.{append}
+use Rattle.log.specs.Opening.{openOf, checked, judged}
+use Rattle.log.specs.Operations.{unless, dataWrites, moved, sameBytes, standsAt, headerWrites, headerWrite, selectorWrite, fresh, setUpPlan}
+use Rattle.log.specs.declared.Opened.{Opened}
+use Rattle.log.specs.Theorems.{Damaged}
+use Rattle.log.proofs.Change.{selector-piece}
+
+-- a medium of n bytes, all zeros, set up
+unfoldable pub fresh-medium : ℕ → List ℕ
+fresh-medium n = final (replicate n 0) (setUpPlan n)
+
+-- WITHOUT THE FLUSH BEFORE THE SELECTOR. A ring of one byte, an empty append; nothing is flushed. Of all its writes (the header's checksum
+-- and size, the selector) the selector's piece alone arrives: the selector names a header that was never written.
+unfoldable pub writes : List Write
+writes = dataWrites (append []) (fresh 73) ++ headerWrites (fresh-medium 73) (moved (append []) (fresh 73)) ++ (selectorWrite true ∷ [])
+
+pub record NoFlushBefore : Type 0 where
+  pub before : openOf (fresh-medium 73) ≡ Opened.Log (fresh 73)
+  pub left : Left (after (still (fresh-medium 73)) (map put writes)) (write (fresh-medium 73) (selectorWrite true))
+  pub opens : Damaged true (write (fresh-medium 73) (selectorWrite true))
+
+pub no-flush-before : NoFlushBefore
+unfolding fresh-medium writes after step dataWrites headerWrites unless standsAt sameBytes moved setUpPlan commit apply seen run header openOf checked judged wordAt low crcOf bits bitsOf number onto divide remainder generator
+no-flush-before =
+    record {
+      before = refl;
+      left =
+          one-arrives (after (still (fresh-medium 73)) (map put writes)) (selectorWrite true)
+          (List·Memᴰ.List·Memᴰ·tail (List·Memᴰ.List·Memᴰ·tail (List·Memᴰ.List·Memᴰ·head refl))) (selector-piece true);
+      opens = (_, _, refl);
+    }
+
+-- WITHOUT THE FLUSH AFTER THE SELECTOR it shows in the next operation. A ring of two bytes, an empty append that was answered, its selector
+-- still pending; then an append of one byte, of whose header the checksum's piece alone arrives: the first header, which the medium's
+-- selector still names, is torn, and the log is lost.
+unfoldable pub answered-one : List ℕ
+answered-one = write (fresh-medium 74) (headerWrite (moved (append []) (fresh 74)))
+
+unfoldable pub pending-two : List Write
+pending-two =
+    selectorWrite true
+    ∷ (dataWrites (append (7 ∷ [])) (moved (append []) (fresh 74))
+    ++ headerWrites (write answered-one (selectorWrite true)) (moved (append (7 ∷ [])) (moved (append []) (fresh 74))))
+
+-- the checksum's piece of that header
+unfoldable pub checksum : Write
+checksum = record { at = 8; bytes = le (crcOf (content 0 1 2)) }
+
+pub record NoFlushAfter : Type 0 where
+  pub left : Left (after (still answered-one) (map put pending-two)) (write answered-one checksum)
+  pub opens : Damaged false (write answered-one checksum)
+
+checksum-piece : InPiece checksum
+unfolding checksum low
+checksum-piece = omega arith
+
+pub no-flush-after : NoFlushAfter
+unfolding answered-one pending-two checksum fresh-medium after step dataWrites headerWrites unless standsAt sameBytes moved setUpPlan commit apply seen run header openOf checked judged wordAt low crcOf bits bitsOf number onto divide remainder generator
+no-flush-after =
+    record {
+      left =
+          one-arrives (after (still answered-one) (map put pending-two)) checksum
+          (List·Memᴰ.List·Memᴰ·tail (List·Memᴰ.List·Memᴰ·tail (List·Memᴰ.List·Memᴰ·head refl))) checksum-piece;
+      opens = (_, _, refl);
+    }

@@ -1,0 +1,378 @@
+/* blackboxlog.h: a record log on persistent memory, for C99 and C++. Link with -lblackboxlog.
+ *
+ * The functions of the archive are written and proved in Rattle; what is `static inline` here is ordinary C over them.
+ *
+ *     uint8_t *medium = ...;                               // persistent memory, aligned to 8
+ *     bbl_reply reply = bbl_open(medium, length);
+ *     if (reply.code != BBL_OK) puts(bbl_reason(reply.code));
+ *     bbl_handle log = reply.handle;
+ *     reply = bbl_append(medium, length, &log, record, record_length);
+ *
+ *
+ * THE LOG is endless: positions only grow. It keeps the bytes from its head, the oldest kept, to its tail, the next to be written. They
+ * stand on the medium, a run of bytes that the caller lends for each call. A medium of n bytes has a ring of n - 72 and a capacity of
+ * n - 73. The library keeps nothing between two calls, allocates nothing and calls nothing; calls on different media may run at once.
+ *
+ * A HANDLE is the log's numbers, kept by the caller. Opening answers one, and every operation that writes answers the next. There must be
+ * one for a medium: an old handle, or a second one, is not recognized, and an operation through it destroys what was written since. A
+ * handle that can't be a log of the medium's length is refused by every call (BBL_BAD_HANDLE).
+ *
+ * A REPLY has a code, BBL_OK or the reason of a refusal, and up to two numbers, which the list of codes below explains. Fields that a code
+ * does not name are 0. A refusal has written nothing.
+ *
+ * WHAT IS ASKED OF THE MEMORY.
+ *   1. The medium begins at an address that is a multiple of 8.
+ *   2. The memory takes what is written in aligned pieces of 8 bytes: a power cut leaves each piece as it was or as it was to be.
+ *   3. After a flush, all that was written before it is there for good. Between two flushes anything may arrive in any order.
+ *   4. Nobody else writes to the medium while an operation is under way.
+ *   5. When a medium is opened or set up, nothing that was written to it before is still on its way. After a power cut that is so. A program
+ *      that ended while the power stayed, and starts again, writes the medium back and flushes before it opens it.
+ * Contents carry no checksum in this format: a read answers the bytes that stand on the medium.
+ *
+ * WHAT A POWER CUT LEAVES. If the memory does this, and the steps of an operation are carried out as below, then whenever the power goes
+ * the medium opens as the log before the operation or as the log after it; after it, once the operation has answered. Set-up has more
+ * cases, see there.
+ *
+ * PLAN AND STEP. An operation that writes has two parts. A bbl_plan_ function makes a plan: a few steps, each a put or a flush, and what the
+ * operation answers once they are done. bbl_step makes one step. The caller carries out all steps in order, each once; at a flush it
+ * flushes, before the next step. Nothing else keeps two writes apart: the compiler may merge stores within a function of the archive, and
+ * each makes at most one write. How many steps a plan has is the library's affair. A plan is for the medium as it is: carry it out before
+ * anything else is written there. If it can't be carried out to its end, the medium is as after a power cut, and the handle is worthless: see
+ * that everything that was written is there for good, and open the medium again. Where the medium is a copy in memory of something else, as
+ * of a file, and a write did not reach that, read it anew first.
+ *
+ * IN ONE CALL: bbl_setup, bbl_append and bbl_advance make a plan and carry it out, with hooks for the memory. Define them before this header
+ * is included; each does nothing by default, which is right for memory that needs no flush, and for trying things out.
+ *
+ *   BBL_WRITTEN(address, length)   after each put: these bytes were written. Begin to write them back.
+ *   BBL_FLUSH()                    at each flush: wait until all that was written is there for good.
+ *   BBL_PERSIST(address, length)   the simple form, alone and instead of the two: after each put, write these bytes back and wait.
+ *
+ * For persistent memory of x86-64, where a line of the cache has 64 bytes:
+ *
+ *   #define BBL_WRITTEN(address, length) my_write_back(address, length)   // _mm_clwb for each line
+ *   #define BBL_FLUSH() _mm_sfence()
+ */
+#ifndef BLACKBOXLOG_H
+#define BLACKBOXLOG_H
+
+#include <stddef.h>
+#include <stdint.h>
+
+#define BBL_VERSION "0.1.0"
+
+/* So many numbers are enough for every plan. */
+#define BBL_PLAN_WORDS 54
+
+/* ---- codes of a reply */
+
+/* It was done. */
+#define BBL_OK 0
+
+/* The medium has 72 bytes or fewer. number: the length that is required, 73. */
+#define BBL_TOO_SHORT 1
+
+/* Opening, damaged: the selector, at offset 0, has neither of its two values. number: what it has. */
+#define BBL_BAD_SELECTOR 2
+
+/* Opening, damaged: the checksum of the live header is wrong. number: the one that is stored; other: the one that is computed;
+ * handle.live: the header, 0 the first, 1 the second. */
+#define BBL_BAD_CHECKSUM 3
+
+/* Opening, not a log: the live header has a right checksum, and numbers that no log has. The first of these four that holds:
+ * the size is 0; */
+#define BBL_SIZE_ZERO 4
+/* the head (number) is past the tail (other); */
+#define BBL_HEAD_PAST_TAIL 5
+/* from head (number) to tail (other) there are as many bytes as the ring has, or more. handle.size: the ring's size; */
+#define BBL_TOO_FULL 6
+/* the header's size (number) is not that of the ring that the medium has (other), which is its length less 72. */
+#define BBL_WRONG_SIZE 7
+
+/* Appending: there is no room for so many bytes. number: how many there is room for. With that many it is not refused. */
+#define BBL_NO_ROOM 8
+
+/* Advancing, reading: the position is before the head. number: the head. */
+#define BBL_BEFORE_HEAD 9
+
+/* Advancing: the position is beyond the tail. Reading: the run of bytes ends beyond the tail. number: the tail. */
+#define BBL_BEYOND_TAIL 10
+
+/* The handle can't be a log of this medium's length. */
+#define BBL_BAD_HANDLE 11
+
+/* Planning: the plan has too few numbers. number: how many are enough. */
+#define BBL_SHORT_PLAN 12
+
+/* These are answered by this header, not by the archive, which cannot see addresses.
+ * The medium begins at an address that is not a multiple of 8. number: the remainder. */
+#define BBL_MISALIGNED 100
+
+/* The bytes to append, or the place for the bytes that are read, overlap the medium. */
+#define BBL_OVERLAP 101
+
+/* A step was refused. number: which. A plan that this header made is never refused: somebody else has written to it. The medium is as
+ * after a power cut; open it again. */
+#define BBL_BROKEN_PLAN 102
+
+/* ---- what a step did: the code of a bbl_stepped */
+
+/* `length` bytes were written at `at`. They may be none. */
+#define BBL_STEP_PUT 0
+/* Nothing was written. Flush, before the next step. */
+#define BBL_STEP_FLUSH 1
+/* Nothing was written: there is no such step in the plan, or it does not fit the medium or the bytes. */
+#define BBL_STEP_REFUSED 2
+
+#ifdef __cplusplus
+extern "C" {
+#endif
+
+typedef struct {
+    uint64_t live; /* the live header: 0 the first, 1 the second */
+    uint64_t head; /* the oldest kept position */
+    uint64_t tail; /* the next position to be written */
+    uint64_t size; /* of the ring, in bytes */
+} bbl_handle;
+
+typedef struct {
+    uint64_t code;
+    uint64_t number;
+    uint64_t other;
+    uint64_t steps; /* of a plan */
+    bbl_handle handle;
+} bbl_reply;
+
+typedef struct {
+    uint64_t code;
+    uint64_t at;
+    uint64_t length;
+} bbl_stepped;
+
+/* ---- the archive's functions
+ *
+ * A pointer comes with the number of its elements. It may be null where that number is 0. What is lent to be changed (the medium of
+ * bbl_step, plan, out) must not overlap anything else that is lent to the same call. */
+
+/* The checksum of `length` bytes: CRC-64/XZ, as in the headers of the log. That of "123456789" is 0x995dc9bbdf1939fa. */
+uint64_t bbl_crc64(const uint8_t *bytes, size_t length);
+
+/* OPENS THE MEDIUM: says what stands on it. It reads 72 bytes, however long the medium is, and writes nothing.
+ *
+ * BBL_OK: handle is the log's.
+ * Refusals: BBL_TOO_SHORT; damaged: BBL_BAD_SELECTOR, BBL_BAD_CHECKSUM; not a log: BBL_SIZE_ZERO, BBL_HEAD_PAST_TAIL, BBL_TOO_FULL,
+ *   BBL_WRONG_SIZE.
+ * Damage of the live header is answered as such if it flips 1 to 7 bits, or an odd number, or is within 64 consecutive bits in the order
+ *   in which the checksum takes them (the 24 bytes from the head on, each from its lowest bit, then the checksum from its lowest); damage
+ *   of the selector, if it flips 1 to 24 bits. */
+bbl_reply bbl_open(const uint8_t *medium, size_t medium_length);
+
+/* PLANS TO SET UP an empty log on the medium, whatever stands on it. See bbl_setup.
+ *
+ * BBL_OK: the plan is in `plan` and has `steps` steps; number: the capacity; handle: the log's, once all steps are done.
+ * Refusals: BBL_SHORT_PLAN; BBL_TOO_SHORT.
+ * Of the medium only the length is used; nothing is written to it. */
+bbl_reply bbl_plan_setup(const uint8_t *medium, size_t medium_length, uint64_t *plan, size_t words);
+
+/* PLANS TO APPEND `length` bytes. See bbl_append.
+ *
+ * BBL_OK: the plan is in `plan` and has `steps` steps; number: the position of the first byte; handle: the log's, once all steps are done.
+ * Refusals, in this order: BBL_BAD_HANDLE if handle.live is neither 0 nor 1; BBL_SHORT_PLAN; BBL_BAD_HANDLE; BBL_NO_ROOM.
+ * Nothing is written to the medium. Of its bytes planning looks at the header that is not live, and leaves out what would not change. */
+bbl_reply bbl_plan_append(const uint8_t *medium, size_t medium_length, bbl_handle handle, uint64_t length, uint64_t *plan, size_t words);
+
+/* PLANS TO ADVANCE THE HEAD to a position. See bbl_advance.
+ *
+ * BBL_OK: the plan is in `plan` and has `steps` steps; handle: the log's, once all steps are done.
+ * Refusals, in this order: BBL_BAD_HANDLE if handle.live is neither 0 nor 1; BBL_SHORT_PLAN; BBL_BAD_HANDLE; BBL_BEFORE_HEAD;
+ *   BBL_BEYOND_TAIL.
+ * Nothing is written to the medium. Of its bytes planning looks at the header that is not live, and leaves out what would not change. */
+bbl_reply bbl_plan_advance(const uint8_t *medium, size_t medium_length, bbl_handle handle, uint64_t position, uint64_t *plan,
+                           size_t words);
+
+/* CARRIES OUT STEP i of a plan, counted from 0: at most one write. `bytes` are those to append, all of them in every call; for other plans
+ * there need be none.
+ *
+ * The caller carries out all steps of the plan, in order, each once, with the same medium, plan and bytes; at BBL_STEP_FLUSH it flushes
+ * before the next. A plan that is carried out otherwise may leave a medium that no longer opens.
+ * Refused: BBL_STEP_REFUSED. It does not happen with a plan, medium and bytes that belong together. Any other plan is safe to pass: it
+ *   writes where it says, within the medium, or is refused. */
+bbl_stepped bbl_step(uint8_t *medium, size_t medium_length, const uint64_t *plan, size_t words, const uint8_t *bytes, size_t length,
+                     uint64_t i);
+
+/* READS `length` bytes from a position on, into `out`. It writes nothing to the medium.
+ *
+ * Refusals, which leave `out` as it was: BBL_BAD_HANDLE; BBL_BEFORE_HEAD; BBL_BEYOND_TAIL (also where position + length passes 2^64 - 1). */
+bbl_reply bbl_read(const uint8_t *medium, size_t medium_length, bbl_handle handle, uint64_t position, uint8_t *out, size_t length);
+
+/* ASKS FOR HEAD, TAIL AND CAPACITY. It writes nothing.
+ *
+ * BBL_OK: number: the capacity; handle.head, handle.tail: head and tail. The reply's handle is not one to go on with.
+ * Refusal: BBL_BAD_HANDLE. Of the medium only the length is used. */
+bbl_reply bbl_ask(const uint8_t *medium, size_t medium_length, bbl_handle handle);
+
+#ifdef __cplusplus
+}
+#endif
+
+/* ---- what follows is C over the archive's functions */
+
+#ifndef BBL_WRITTEN
+#define BBL_WRITTEN(address, length) ((void)(address), (void)(length))
+#endif
+#ifndef BBL_FLUSH
+#define BBL_FLUSH() ((void)0)
+#endif
+#ifndef BBL_PERSIST
+#define BBL_PERSIST(address, length) ((void)(address), (void)(length))
+#endif
+
+/* A code in words. Never null. */
+static inline const char *bbl_reason(uint64_t code)
+{
+    switch (code) {
+    case BBL_OK: return "done";
+    case BBL_TOO_SHORT: return "the medium is too short";
+    case BBL_BAD_SELECTOR: return "damaged: the selector has neither of its two values";
+    case BBL_BAD_CHECKSUM: return "damaged: the checksum of the live header is wrong";
+    case BBL_SIZE_ZERO: return "not a log: the size is 0";
+    case BBL_HEAD_PAST_TAIL: return "not a log: the head is past the tail";
+    case BBL_TOO_FULL: return "not a log: more bytes between head and tail than the ring can keep";
+    case BBL_WRONG_SIZE: return "not a log: the size is not that of the medium's ring";
+    case BBL_NO_ROOM: return "no room for so many bytes";
+    case BBL_BEFORE_HEAD: return "the position is before the head";
+    case BBL_BEYOND_TAIL: return "beyond the tail";
+    case BBL_BAD_HANDLE: return "the handle can't be a log of this medium";
+    case BBL_SHORT_PLAN: return "the plan has too few numbers";
+    case BBL_MISALIGNED: return "the medium is not aligned to 8 bytes";
+    case BBL_OVERLAP: return "the bytes overlap the medium";
+    case BBL_BROKEN_PLAN: return "a step of the plan was refused";
+    default: return "unknown code";
+    }
+}
+
+static inline bbl_reply bbl_answer_(uint64_t code, uint64_t number)
+{
+    bbl_reply reply;
+    reply.code = code;
+    reply.number = number;
+    reply.other = 0;
+    reply.steps = 0;
+    reply.handle.live = 0;
+    reply.handle.head = 0;
+    reply.handle.tail = 0;
+    reply.handle.size = 0;
+    return reply;
+}
+
+/* The two refusals that need addresses, or BBL_OK. */
+static inline bbl_reply bbl_addresses_(const uint8_t *medium, size_t medium_length, const uint8_t *bytes, size_t length)
+{
+    const uintptr_t m = (uintptr_t)medium;
+    const uintptr_t b = (uintptr_t)bytes;
+    if (m % 8 != 0) {
+        return bbl_answer_(BBL_MISALIGNED, m % 8);
+    }
+    if (medium_length != 0 && length != 0 && (m < b ? b - m < medium_length : m - b < length)) {
+        return bbl_answer_(BBL_OVERLAP, 0);
+    }
+    return bbl_answer_(BBL_OK, 0);
+}
+
+/* Carries out all steps of a plan that `planned` answered, with the hooks. Answers `planned`, or BBL_BROKEN_PLAN. */
+static inline bbl_reply bbl_carry_out(uint8_t *medium, size_t medium_length, const uint64_t *plan, size_t words, const uint8_t *bytes,
+                                      size_t length, bbl_reply planned)
+{
+    uint64_t i;
+    for (i = 0; i < planned.steps; i++) {
+        const bbl_stepped done = bbl_step(medium, medium_length, plan, words, bytes, length, i);
+        if (done.code == BBL_STEP_FLUSH) {
+            BBL_FLUSH();
+        } else if (done.code != BBL_STEP_PUT) {
+            return bbl_answer_(BBL_BROKEN_PLAN, i);
+        } else if (done.length != 0) {
+            BBL_WRITTEN(medium + done.at, (size_t)done.length);
+            BBL_PERSIST(medium + done.at, (size_t)done.length);
+        }
+    }
+    return planned;
+}
+
+/* SETS UP an empty log on the medium, whatever stands on it.
+ *
+ * BBL_OK: number: the capacity; handle: the log's.
+ * Refusals: BBL_MISALIGNED; BBL_TOO_SHORT.
+ * Written: the first header (32 bytes at 8), then the selector (8 bytes at 0). The ring is left as it is.
+ * A power cut leaves, by what stood there before:
+ *   the selector names the second header, or neither: what stood there, or the new log;
+ *   a log whose first header is live: that log, the new one, or BBL_BAD_CHECKSUM;
+ *   the selector names the first header, and there is no log (the header is damaged, or has numbers that no log has): any mixture of the four
+ *   pieces of the old header and the new one. Seldom, but possibly, that is a log that never was. To rule it out, store 0 in the selector
+ *   first, as one aligned store of 8 bytes, and flush. */
+static inline bbl_reply bbl_setup(uint8_t *medium, size_t medium_length)
+{
+    uint64_t plan[BBL_PLAN_WORDS];
+    bbl_reply reply = bbl_addresses_(medium, medium_length, NULL, 0);
+    if (reply.code == BBL_OK) {
+        reply = bbl_plan_setup(medium, medium_length, plan, BBL_PLAN_WORDS);
+    }
+    if (reply.code == BBL_OK) {
+        reply = bbl_carry_out(medium, medium_length, plan, BBL_PLAN_WORDS, NULL, 0, reply);
+    }
+    return reply;
+}
+
+/* APPENDS `length` bytes at the tail: all of them or none.
+ *
+ * BBL_OK: number: the position of the first byte; *handle is the next handle, and the reply's is the same.
+ * Refusals, which leave *handle as it was: BBL_MISALIGNED; BBL_OVERLAP; BBL_BAD_HANDLE; BBL_NO_ROOM.
+ * Written: the bytes at the tail's place in the ring, in two runs if they pass its end; what changes of the header that is not live; then
+ *   the selector.
+ * A power cut leaves the log before the append or the log after it; after it, once this has answered. */
+static inline bbl_reply bbl_append(uint8_t *medium, size_t medium_length, bbl_handle *handle, const uint8_t *bytes, size_t length)
+{
+    uint64_t plan[BBL_PLAN_WORDS];
+    bbl_reply reply = bbl_addresses_(medium, medium_length, bytes, length);
+    if (reply.code == BBL_OK) {
+        reply = bbl_plan_append(medium, medium_length, *handle, length, plan, BBL_PLAN_WORDS);
+    }
+    if (reply.code == BBL_OK) {
+        reply = bbl_carry_out(medium, medium_length, plan, BBL_PLAN_WORDS, bytes, length, reply);
+    }
+    if (reply.code == BBL_OK) {
+        *handle = reply.handle;
+    }
+    return reply;
+}
+
+/* ADVANCES THE HEAD to a position: what is before it is no longer kept, and its room is free.
+ *
+ * BBL_OK: *handle is the next handle, and the reply's is the same.
+ * Refusals, which leave *handle as it was: BBL_MISALIGNED; BBL_BAD_HANDLE; BBL_BEFORE_HEAD; BBL_BEYOND_TAIL.
+ * Written: what changes of the header that is not live, then the selector. The ring is left as it is.
+ * A power cut leaves the log before or the log after; after, once this has answered. */
+static inline bbl_reply bbl_advance(uint8_t *medium, size_t medium_length, bbl_handle *handle, uint64_t position)
+{
+    uint64_t plan[BBL_PLAN_WORDS];
+    bbl_reply reply = bbl_addresses_(medium, medium_length, NULL, 0);
+    if (reply.code == BBL_OK) {
+        reply = bbl_plan_advance(medium, medium_length, *handle, position, plan, BBL_PLAN_WORDS);
+    }
+    if (reply.code == BBL_OK) {
+        reply = bbl_carry_out(medium, medium_length, plan, BBL_PLAN_WORDS, NULL, 0, reply);
+    }
+    if (reply.code == BBL_OK) {
+        *handle = reply.handle;
+    }
+    return reply;
+}
+
+/* READS as bbl_read does, and has the refusals BBL_MISALIGNED and BBL_OVERLAP before those. */
+static inline bbl_reply bbl_get(const uint8_t *medium, size_t medium_length, bbl_handle handle, uint64_t position, uint8_t *out,
+                                size_t length)
+{
+    const bbl_reply reply = bbl_addresses_(medium, medium_length, out, length);
+    return reply.code == BBL_OK ? bbl_read(medium, medium_length, handle, position, out, length) : reply;
+}
+
+#endif

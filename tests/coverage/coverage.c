@@ -1,0 +1,130 @@
+// coverage FROM TO: runs the archive's functions on arbitrary input, one instruction at a time, and prints the addresses between
+// the two that were executed.
+#define _GNU_SOURCE
+#include "format.h"
+#include "fuzz.h"
+
+#include <inttypes.h>
+#include <signal.h>
+#include <stdio.h>
+#include <stdlib.h>
+#include <string.h>
+#include <ucontext.h>
+
+enum { MOST = 1 << 16, AT_LEAST = 1000, QUIET = 600 };
+
+static uint64_t from, to;
+static bool executed[MOST];
+static unsigned found;
+
+__attribute__((force_align_arg_pointer)) static void note(int number, siginfo_t *info, void *context) {
+    (void)number, (void)info;
+    uint64_t at = (uint64_t)((ucontext_t *)context)->uc_mcontext.gregs[REG_RIP];
+    if (at >= from && at < to && !executed[at - from]) {
+        executed[at - from] = true;
+        found++;
+    }
+}
+
+// With the trap flag set each instruction is followed by a signal.
+static void flag(bool on) {
+    if (on) {
+        __asm__ volatile("pushfq; orq $0x100, (%%rsp); popfq" : : : "memory", "cc");
+    } else {
+        __asm__ volatile("pushfq; andq $~0x100, (%%rsp); popfq" : : : "memory", "cc");
+    }
+}
+
+#define STEPPED(RESULT, NAME, PARAMETERS, ARGUMENTS) \
+    static RESULT stepped_##NAME PARAMETERS {        \
+        flag(true);                                  \
+        RESULT result = bbl_##NAME ARGUMENTS;        \
+        flag(false);                                 \
+        return result;                               \
+    }
+
+STEPPED(uint64_t, crc64, (const uint8_t *b, size_t n), (b, n))
+STEPPED(bbl_reply, open, (const uint8_t *m, size_t n), (m, n))
+STEPPED(bbl_reply, plan_setup, (const uint8_t *m, size_t n, uint64_t *p, size_t w), (m, n, p, w))
+STEPPED(bbl_reply, plan_append, (const uint8_t *m, size_t n, bbl_handle h, uint64_t c, uint64_t *p, size_t w),
+        (m, n, h, c, p, w))
+STEPPED(bbl_reply, plan_advance, (const uint8_t *m, size_t n, bbl_handle h, uint64_t c, uint64_t *p, size_t w),
+        (m, n, h, c, p, w))
+STEPPED(bbl_stepped, step,
+        (uint8_t *m, size_t n, const uint64_t *p, size_t w, const uint8_t *b, size_t c, uint64_t i),
+        (m, n, p, w, b, c, i))
+STEPPED(bbl_reply, read, (const uint8_t *m, size_t n, bbl_handle h, uint64_t p, uint8_t *o, size_t c), (m, n, h, p, o, c))
+STEPPED(bbl_reply, ask, (const uint8_t *m, size_t n, bbl_handle h), (m, n, h))
+
+// Every length of a checksum; the medium that says that its size is 0.
+static void checksums(void) {
+    uint8_t bytes[80] = {0};
+    for (size_t count = 0; count <= 40; count++) {
+        stepped_crc64(bytes, count);
+    }
+    put_log(bytes, 0, 0, 0, false);
+    stepped_open(bytes, sizeof bytes);
+}
+
+// Reads of every length, whole and over the ring's end.
+static void reads(void) {
+    static uint8_t medium[72 + 100], out[100];
+    for (uint64_t count = 0; count < 100; count++) {
+        for (uint64_t head = 0; head < 100; head += 20) {
+            stepped_read(medium, sizeof medium, (bbl_handle){0, head, head + 99, 100}, head, out, count);
+        }
+    }
+}
+
+// A copy takes another way where the two buffers are near each other: the bytes of a step right before the place where they go,
+// and what is read right behind its place.
+static void near_buffers(void) {
+    static uint8_t memory[256];
+    for (size_t count = 0; count < 40; count++) {
+        const uint64_t plan[] = {1, 0, 0, count, 0, 0};
+        stepped_step(memory + count, 80, plan, 6, memory, count, 0);
+        stepped_read(memory, 72 + 60, (bbl_handle){0, 0, count, 60}, 0, memory + 72 + count, count);
+        stepped_read(memory, 72 + 60, (bbl_handle){0, 60, 60 + count, 60}, 60, memory + 72 + count, count);
+    }
+}
+
+int main(int count, char **words) {
+    static const log_under_test stepped = {
+        "archive",    stepped_open, stepped_plan_setup, stepped_plan_append, stepped_plan_advance,
+        stepped_step, stepped_read, stepped_ask,
+    };
+    if (count != 3) {
+        return 2;
+    }
+    from = strtoull(words[1], NULL, 16);
+    to = strtoull(words[2], NULL, 16);
+    if (to <= from || to - from > MOST) {
+        fprintf(stderr, "coverage: no such range\n");
+        return 2;
+    }
+    struct sigaction action = {.sa_flags = SA_SIGINFO, .sa_sigaction = note};
+    sigemptyset(&action.sa_mask);
+    sigaction(SIGTRAP, &action, NULL);
+    checksums();
+    reads();
+    near_buffers();
+    // until nothing new was found for some time
+    fuzz f = fuzz_of(&stepped);
+    uint64_t i = 0, last = 0;
+    while (i < AT_LEAST || i < last + QUIET) {
+        unsigned before = found;
+        if (fuzz_cases(&f, i, i + 1) == i) {
+            fprintf(stderr, "coverage: %s\n", f.wrong);
+            return 1;
+        }
+        i++;
+        last = found > before ? i : last;
+    }
+    printf("%" PRIu64 " inputs\n", i);
+    for (uint64_t at = from; at < to; at++) {
+        if (executed[at - from]) {
+            printf("%" PRIx64 "\n", at);
+        }
+    }
+    return 0;
+}

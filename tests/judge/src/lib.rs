@@ -1,0 +1,3 @@
+//! The archive as a log that tests/compare drives. README.md has the commands.
+
+pub mod archive;
