@@ -88,6 +88,30 @@ static void near_buffers(void) {
     }
 }
 
+// A log that is used for a while: of the header that is written next some pieces stand there already; after two appends of
+// nothing all of them do.
+static void usual_life(void) {
+    static uint8_t medium[72 + 10];
+    static const uint8_t bytes[9];
+    static const struct {
+        bool advance;
+        uint64_t count;
+    } life[] = {{false, 3}, {false, 0}, {false, 0}, {true, 3}, {true, 3}, {true, 3}, {false, 9}, {true, 12}, {false, 5}};
+    uint64_t plan[BBL_PLAN_WORDS];
+    bbl_reply reply = stepped_plan_setup(medium, sizeof medium, plan, BBL_PLAN_WORDS);
+    for (size_t k = 0;; k++) {
+        for (uint64_t i = 0; i < reply.steps; i++) {
+            stepped_step(medium, sizeof medium, plan, BBL_PLAN_WORDS, bytes, sizeof bytes, i);
+        }
+        if (k == sizeof life / sizeof *life) {
+            return;
+        }
+        reply = life[k].advance
+                    ? stepped_plan_advance(medium, sizeof medium, reply.handle, life[k].count, plan, BBL_PLAN_WORDS)
+                    : stepped_plan_append(medium, sizeof medium, reply.handle, life[k].count, plan, BBL_PLAN_WORDS);
+    }
+}
+
 int main(int count, char **words) {
     static const log_under_test stepped = {
         "archive",    stepped_open, stepped_plan_setup, stepped_plan_append, stepped_plan_advance,
@@ -108,6 +132,7 @@ int main(int count, char **words) {
     checksums();
     reads();
     near_buffers();
+    usual_life();
     // until nothing new was found for some time
     fuzz f = fuzz_of(&stepped);
     uint64_t i = 0, last = 0;

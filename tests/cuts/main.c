@@ -136,6 +136,9 @@ static void all(void) {
     part("cuts of set-up, first header live", first_header_live);
     part("cuts of set-up, neither selector", neither_selector);
     part("cuts of set-up, first header damaged", first_header_damaged);
+    part("cuts after set-up", set_up_is_kept);
+    part("mutant set-up without the flush before its selector", caught_without_first_flush);
+    part("mutant set-up without the flush after its selector", caught_without_last_flush);
     for (mutant = mutants; mutant->name != NULL; mutant++) {
         snprintf(name, sizeof name, "mutant %s", mutant->name);
         part(name, caught);

@@ -14,6 +14,7 @@ typedef struct {
     char *text;
     uint64_t counts[SOMETHING_ELSE + 1];
     found (*expected)(const uint8_t *before, const uint8_t *left, size_t length);
+    bool at_rest;  // the cut comes when set-up is answered, not during it
     // the medium under way: its bytes, what opening answered before, and what it answers afterwards
     size_t length;
     uint8_t before[LARGEST];
@@ -59,22 +60,28 @@ static bool judge(void *context, const uint8_t *left, const cut *c) {
     return false;
 }
 
-// Every cut of set-up on the medium in `before`.
-static bool cut_set_up(row *r) {
+// Set-up's steps on the medium in `before`, without flush number `flush_left_out`, counted from 1; and what opening answers
+// before and afterwards.
+static unsigned flush_left_out;
+
+static bool plan_set_up(row *r, uint8_t medium[LARGEST], step steps[STEPS], unsigned *count) {
     uint64_t plan[BBL_PLAN_WORDS];
-    uint8_t medium[LARGEST];
-    step steps[STEPS];
-    device d;
+    unsigned flushes = 0;
     memcpy(medium, r->before, r->length);
     bbl_reply reply = bbl_plan_setup(medium, r->length, plan, BBL_PLAN_WORDS);
+    *count = 0;
     for (uint64_t i = 0; i < reply.steps; i++) {
         bbl_stepped done = bbl_step(medium, r->length, plan, BBL_PLAN_WORDS, medium, 0, i);
         if (i >= STEPS || done.code > BBL_STEP_FLUSH) {
             say(r->text, "step %" PRIu64 " of set-up answers code %" PRIu64, i, done.code);
             return false;
         }
-        steps[i] = (step){.flush = done.code == BBL_STEP_FLUSH, .at = done.at, .length = done.length};
-        memcpy(steps[i].bytes, medium + done.at, done.length);
+        if (done.code == BBL_STEP_FLUSH && ++flushes == flush_left_out) {
+            continue;
+        }
+        step *next = &steps[(*count)++];
+        *next = (step){.flush = done.code == BBL_STEP_FLUSH, .at = done.at, .length = done.length};
+        memcpy(next->bytes, medium + done.at, done.length);
     }
     r->old = bbl_open(r->before, r->length);
     r->new = bbl_open(medium, r->length);
@@ -82,8 +89,24 @@ static bool cut_set_up(row *r) {
         say(r->text, "set-up answers code %" PRIu64 ", opening afterwards %" PRIu64, reply.code, r->new.code);
         return false;
     }
+    return true;
+}
+
+// Every cut of set-up on the medium in `before`; or every cut at the time when it is answered.
+static bool cut_set_up(row *r) {
+    uint8_t medium[LARGEST];
+    step steps[STEPS];
+    unsigned count;
+    device d;
+    if (!plan_set_up(r, medium, steps, &count)) {
+        return false;
+    }
     make_still(&d, r->before, r->length);
-    return each_cut(&d, steps, (unsigned)reply.steps, judge, r);
+    if (r->at_rest) {
+        settle(&d, steps, count);
+        count = 0;
+    }
+    return each_cut(&d, steps, count, judge, r);
 }
 
 static bool end_row(const row *r, bool well) {
@@ -129,6 +152,11 @@ static found damaged_new_or_mixture(const uint8_t *before, const uint8_t *left, 
     const uint8_t *header = left + FIRST_HEADER_AT;
     bool whole = number_at(header, 0) == crc64(header + HEAD_IN, HEADER_LENGTH - HEAD_IN);
     return has_fresh_header(left, length) ? NEW : whole ? MIXTURE : DAMAGED;
+}
+
+static found only_new(const uint8_t *before, const uint8_t *left, size_t length) {
+    (void)before, (void)left, (void)length;
+    return NEW;
 }
 
 // ---- the rows
@@ -201,4 +229,30 @@ bool first_header_damaged(char text[TEXT]) {
         }
     }
     return end_row(&r, true);
+}
+
+// ---- the time after set-up, and set-up without one of its flushes
+
+bool set_up_is_kept(char text[TEXT]) {
+    row r = {.text = text, .expected = only_new, .at_rest = true};
+    return end_row(&r, on_shapes(&r, true, false));
+}
+
+// Passes when set-up without that flush fails.
+static bool caught_without(char text[TEXT], unsigned flush, bool passes(char text[TEXT])) {
+    static char found[TEXT];
+    found[0] = 0;
+    flush_left_out = flush;
+    bool missed = passes(found);
+    flush_left_out = 0;
+    say(text, "%s%s", missed ? "not caught: " : "caught: ", found);
+    return !missed;
+}
+
+bool caught_without_first_flush(char text[TEXT]) {
+    return caught_without(text, 1, second_header_live);
+}
+
+bool caught_without_last_flush(char text[TEXT]) {
+    return caught_without(text, 2, set_up_is_kept);
 }

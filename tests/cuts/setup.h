@@ -19,4 +19,11 @@ bool neither_selector(char text[TEXT]);
 // changed, so a mixture is that good header again: the cut wrote just that field back.
 bool first_header_damaged(char text[TEXT]);
 
+// A cut when set-up has been answered: the new log.
+bool set_up_is_kept(char text[TEXT]);
+
+// Set-up without its flush before the selector, or without the one after it: each of the two must be caught.
+bool caught_without_first_flush(char text[TEXT]);
+bool caught_without_last_flush(char text[TEXT]);
+
 #endif

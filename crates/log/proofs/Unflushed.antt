@@ -14,6 +14,7 @@ use Rattle.log.specs.Format.{header, content}
 use Rattle.log.specs.Log.{append}
 use Rattle.log.specs.Opening.{openOf, checked, judged}
 use Rattle.log.specs.Operations.{unless, dataWrites, moved, sameBytes, standsAt, headerWrites, headerWrite, selectorWrite, fresh, setUpPlan}
+use Rattle.log.specs.declared.Handle.{Handle}
 use Rattle.log.specs.declared.Opened.{Opened}
 use Rattle.log.specs.Theorems.{Damaged}
 use Rattle.log.proofs.Change.{selector-piece}
@@ -74,5 +75,70 @@ no-flush-after =
       left =
           one-arrives (after (still answered-one) (map put pending-two)) checksum
           (List·Memᴰ.List·Memᴰ·tail (List·Memᴰ.List·Memᴰ·tail (List·Memᴰ.List·Memᴰ·head refl))) checksum-piece;
+      opens = (_, _, refl);
+    }
+
+-- SET-UP WITHOUT THE FLUSH BEFORE THE SELECTOR. A ring of two bytes, its log at position 1 and empty, by the second header; the first one
+-- is that of the operation before, when a byte was kept. Of set-up's writes the selector's piece alone arrives: the log of the operation
+-- before is back, neither the one that stood there nor the new one.
+unfoldable pub earlier : Handle
+earlier = record { second = false; head = 0; tail = 1; size = 2 }
+
+unfoldable pub live : Handle
+live = record { second = true; head = 1; tail = 1; size = 2 }
+
+unfoldable pub two-headers : List ℕ
+two-headers = run (replicate 74 0) (selectorWrite true ∷ headerWrite earlier ∷ headerWrite live ∷ [])
+
+unfoldable pub set-up-writes : List Write
+set-up-writes = headerWrite (fresh 74) ∷ selectorWrite false ∷ []
+
+pub record SetUpNoFlushBefore : Type 0 where
+  pub before : openOf two-headers ≡ Opened.Log live
+  pub left : Left (after (still two-headers) (map put set-up-writes)) (write two-headers (selectorWrite false))
+  pub opens : openOf (write two-headers (selectorWrite false)) ≡ Opened.Log earlier
+
+pub set-up-no-flush-before : SetUpNoFlushBefore
+unfolding two-headers earlier live set-up-writes after step run header openOf checked judged wordAt low crcOf bits bitsOf number onto divide remainder generator
+set-up-no-flush-before =
+    record {
+      before = refl;
+      left =
+          one-arrives (after (still two-headers) (map put set-up-writes)) (selectorWrite false)
+          (List·Memᴰ.List·Memᴰ·tail (List·Memᴰ.List·Memᴰ·head refl)) (selector-piece false);
+      opens = refl;
+    }
+
+-- SET-UP WITHOUT THE FLUSH AFTER THE SELECTOR. The same medium, set up and answered, the selector still pending; then an append of one byte,
+-- of whose header the checksum's piece alone arrives: the second header, which the medium's selector still names, is torn, and neither the
+-- log that stood there nor the new one is left.
+unfoldable pub set-up-answered : List ℕ
+set-up-answered = write two-headers (headerWrite (fresh 74))
+
+unfoldable pub then-pending : List Write
+then-pending =
+    selectorWrite false
+    ∷ (dataWrites (append (7 ∷ [])) (fresh 74)
+    ++ headerWrites (write set-up-answered (selectorWrite false)) (moved (append (7 ∷ [])) (fresh 74)))
+
+-- the checksum's piece of that header
+unfoldable pub next-checksum : Write
+next-checksum = record { at = 40; bytes = le (crcOf (content 0 1 2)) }
+
+pub record SetUpNoFlushAfter : Type 0 where
+  pub left : Left (after (still set-up-answered) (map put then-pending)) (write set-up-answered next-checksum)
+  pub opens : Damaged true (write set-up-answered next-checksum)
+
+next-checksum-piece : InPiece next-checksum
+unfolding next-checksum low
+next-checksum-piece = omega arith
+
+pub set-up-no-flush-after : SetUpNoFlushAfter
+unfolding two-headers earlier live set-up-answered then-pending next-checksum after step dataWrites headerWrites unless standsAt sameBytes moved run header openOf checked judged wordAt low crcOf bits bitsOf number onto divide remainder generator
+set-up-no-flush-after =
+    record {
+      left =
+          one-arrives (after (still set-up-answered) (map put then-pending)) next-checksum
+          (List·Memᴰ.List·Memᴰ·tail (List·Memᴰ.List·Memᴰ·tail (List·Memᴰ.List·Memᴰ·head refl))) next-checksum-piece;
       opens = (_, _, refl);
     }
