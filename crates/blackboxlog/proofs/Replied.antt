@@ -55,4 +55,4 @@ is-known k l = le-leb _ _ l
 
 pub none-planned : (p b : List ℕ) → Planned p b [] 0 p
 unfolding Holds
-none-planned p b = record { steps = refl; holds = λ i h. absurd (omega arith); kept = λ e. refl }
+none-planned p b = record { steps = refl; holds = λ i h. absurd (omega arith); long = refl; rest = λ j g. refl }

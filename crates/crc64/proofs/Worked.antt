@@ -2,7 +2,8 @@
 use mathlib.Core.Path.{_≡_, refl}
 use mathlib.Core.Bool.{false}
 use lib.ListN.{take, drop}
-use Rattle.crc64.specs.Crc64.{bits, bitsOf, low, number, onto, divide, remainder, generator, crcOf}
+use Rattle.device.specs.Word.{low}
+use Rattle.crc64.specs.Crc64.{bits, bitsOf, number, onto, divide, remainder, generator, crcOf}
 use Rattle.crc64.specs.Damage.{distance}
 use Rattle.crc64.specs.Examples.{whole, damaged, Examples}
 use Rattle.crc64.proofs.Lists.{take-agree, drop-agree}

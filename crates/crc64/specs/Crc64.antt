@@ -18,14 +18,6 @@ unfoldable pub bitsOf : List ℕ → List Bool
 bitsOf [] = []
 bitsOf (b ∷ bs) = bits 8 b ++ bitsOf bs
 
--- the n lowest bytes of a number, from the lowest; and a number of 64 bits as it is stored
-unfoldable pub low : ℕ → ℕ → List ℕ
-low zero x = []
-low (suc n) x = x % 256 ∷ low n (x / 256)
-
-abbrev pub le : ℕ → List ℕ
-le x = low 8 x
-
 -- a bit as a number
 abbrev pub digit : Bool → ℕ
 digit false = 0

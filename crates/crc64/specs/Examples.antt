@@ -3,7 +3,8 @@
 use Prim.Native.Nat.{ℕ}
 use mathlib.Core.Path.{_≡_}
 use mathlib.Core.List.{List, [], _∷_, _++_}
-use Rattle.crc64.specs.Crc64.{bitsOf, le, crcOf}
+use Rattle.device.specs.Word.{le}
+use Rattle.crc64.specs.Crc64.{bitsOf, crcOf}
 use Rattle.crc64.specs.Damage.{Within, Right, flips}
 
 -- the content of a log's header

@@ -13,7 +13,8 @@ use lib.Dec.{eqb}
 use lib.ListN.{length, getD, take, drop, length-drop, take-append-drop}
 use lib.Pow.{pow-pos}
 use lib.Seq.{drop-cons, take-all, take-add}
-use Rattle.crc64.specs.Crc64.{bits, bitsOf, low, crcOf}
+use Rattle.device.specs.Word.{low}
+use Rattle.crc64.specs.Crc64.{bits, bitsOf, crcOf}
 use Rattle.crc64.proofs.Digits.{bitsOf-append}
 use Rattle.crc64.proofs.Division.{ones64, ones64-lt, register-of, crcOf-lt}
 use Rattle.crc64.proofs.Register.{poly, run}

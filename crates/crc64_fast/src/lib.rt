@@ -4,7 +4,8 @@ ghost use mathlib.Core.Path.{_≡_};
 ghost use mathlib.Core.List.{List, _∷_, _++_};
 ghost use Prim.Native.Nat.{ℕ, suc, _+_, _*_, _≤_, _<_};
 ghost use lib.ListN.{length, take, drop};
-ghost use Rattle.crc64.specs.Crc64.{low, le, crcOf};
+ghost use Rattle.crc64.specs.Crc64.{crcOf};
+ghost use Rattle.device.specs.Word.{low, le};
 ghost use Rattle.crc64_tables.specs.Leaves.{leaves};
 
 // What is added before the first bit and after the last.

@@ -5,7 +5,7 @@ use mathlib.Core.Path.{_≡_}
 use mathlib.Core.Logic.{_⊎_, _↔_}
 use mathlib.Core.List.{List, [], _∷_, List·Memᴰ}
 use lib.ListN.{length, getD}
-use Rattle.device.specs.Device.{Write, write, Step, put, flush, Device, still, step, upto, Left}
+use Rattle.device.specs.Device.{Write, write, Step, put, flush, Device, still, seen, step, upto, Left}
 
 -- with one write under way, each aligned piece of eight bytes is old or new
 pub record Torn (m : List ℕ) (w : Write) (m′ : List ℕ) : Type 0 where
@@ -32,6 +32,8 @@ pub record Remarks : Type 0 where
   pub kind : (m : List ℕ) (ws : List Write) (m′ : List ℕ) → ((n : ℕ) × Left (upto n (still m) (oneByOne ws)) m′) ↔ Kind m ws m′
   -- in general: it may be that nothing arrived
   pub nothing-arrived : (d : Device) → Left d (d .kept)
+  -- or everything
+  pub all-arrived : (d : Device) → Left d (seen d)
   -- any one piece of any pending write may arrive next
   pub piece-arrives : (d : Device) (m : List ℕ) (w : Write) (p : ℕ) (m′ : List ℕ) → Left d m → List·Memᴰ w (d .pending) → length m′ ≡ length m
       → ((k : ℕ) → k / 8 ≡ p → getD m′ k 0 ≡ getD (write m w) k 0) → ((k : ℕ) → (k / 8 ≡ p → ⊥) → getD m′ k 0 ≡ getD m k 0) → Left d m′

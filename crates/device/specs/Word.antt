@@ -6,14 +6,8 @@ use lib.ListN.{getD}
 -- the number of 64 bits that stands at k; a byte past the end counts as 0
 unfoldable pub wordAt : List ℕ → ℕ → ℕ
 wordAt m k =
-    (getD m k 0
-    + 256 * (getD m (k + 1) 0
-    + 256 * (getD m (k + 2) 0
-    + 256 * (getD m (k + 3) 0
-    + 256 * (getD m (k + 4) 0
-    + 256 * (getD m (k + 5) 0
-    + 256 * (getD m (k + 6) 0
-    + 256 * getD m (k + 7) 0)))))))
+    (getD m k 0 + 256 * (getD m (k + 1) 0 + 256 * (getD m (k + 2) 0 + 256 * (getD m (k + 3) 0
+    + 256 * (getD m (k + 4) 0 + 256 * (getD m (k + 5) 0 + 256 * (getD m (k + 6) 0 + 256 * getD m (k + 7) 0)))))))
     % 2 ^ 64
 
 -- the n lowest bytes of a number, from the lowest

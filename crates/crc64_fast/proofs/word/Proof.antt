@@ -5,7 +5,7 @@ use Prim.Native.Nat.{ℕ, _+_, _≤_}
 use borrow.Author.Needs.{needs}
 use native.Mathlib.Omega.{arith}
 use lib.ListN.{length}
-use Rattle.crc64.specs.Crc64.{low}
+use Rattle.device.specs.Word.{low}
 use Rattle.crc64_fast.proofs.Words.{start, next}
 use Rattle.crc64_fast.proofs.word.Statement.{statement}
 use Rattle.crc64_fast.proofs.word.Tie as tie
