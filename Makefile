@@ -65,7 +65,7 @@ build/demo/recorder: build/libblackboxlog.a demo/recorder.c include/blackboxlog.
 	@mkdir -p build/demo
 	@tools/x86 cc -std=gnu11 -Wall -Wextra -O2 -Iinclude demo/recorder.c -Lbuild -lblackboxlog -o $@
 
-bench: lib ## times beside the same log by hand in C, memcpy, liblzma and libpmemlog; on x86-64 only
+bench: lib ## times beside the same log by hand in C, memcpy, liblzma and libpmemlog
 	@bench/run
 
 clean: ## remove all that was made; what was fetched stays

@@ -1,6 +1,7 @@
 /* bench [--quick]: how long appends, reads, openings and checksums take, beside the same log by hand in C, memcpy, liblzma and libpmemlog. Medians
- * of five rounds, in which all are measured in turn; in nanoseconds and as ratios. Before that the two logs are held against each other,
- * byte for byte. --quick: one short round, which shows that everything works and no time. */
+ * of five rounds; in a round all are measured in turn, eleven times, and the median counts. In nanoseconds and as ratios, and which goals they
+ * reach. Before that the two logs are held against each other, byte for byte. --quick: one short round, which shows that everything works
+ * and no time. */
 #define _GNU_SOURCE
 #include "subject.h"
 #include <inttypes.h>
@@ -16,11 +17,13 @@
 #include <unistd.h>
 #endif
 
-enum { ROUNDS = 5, RING = 1 << 20, MEDIUM = 72 + RING, LARGEST = 4096, CELLS = 64 };
+/* The ring is small enough to stay in a processor's second cache together with libpmemlog's file: a larger one measures where its pages happen
+ * to be, and no two runs agree. */
+enum { ROUNDS = 5, TURNS = 11, RING = 1 << 18, MEDIUM = 72 + RING, LARGEST = 4096, CELLS = 64 };
 
 static uint8_t *medium;
 static uint8_t payload[LARGEST], out[LARGEST];
-static int quick;
+static int quick, turns;
 
 static void fail(const char *what)
 {
@@ -35,16 +38,17 @@ static double now(void)
     return (double)t.tv_sec * 1e9 + (double)t.tv_nsec;
 }
 
-/* ---- one cell of the table: a name, and a time for each round */
+/* ---- one cell of the table: a time for each turn of each round */
 
 typedef struct {
-    double times[ROUNDS];
-    int rounds;
+    double times[ROUNDS][TURNS];
+    int noted;
 } cell;
 
 static void note(cell *c, double ns)
 {
-    c->times[c->rounds++] = ns;
+    c->times[c->noted / turns][c->noted % turns] = ns;
+    c->noted++;
 }
 
 static int by_size(const void *a, const void *b)
@@ -53,10 +57,21 @@ static int by_size(const void *a, const void *b)
     return (x > y) - (x < y);
 }
 
+static double middle(double *times, int count)
+{
+    qsort(times, (size_t)count, sizeof *times, by_size);
+    return times[count / 2];
+}
+
 static double median(cell *c)
 {
-    qsort(c->times, (size_t)c->rounds, sizeof *c->times, by_size);
-    return c->times[c->rounds / 2];
+    const int rounds = c->noted / turns;
+    double middles[ROUNDS];
+    int i;
+    for (i = 0; i < rounds; i++) {
+        middles[i] = middle(c->times[i], turns);
+    }
+    return middle(middles, rounds);
 }
 
 /* ---- what is measured: nanoseconds for one */
@@ -69,8 +84,8 @@ static size_t many(size_t usual)
 static double appends(const subject *s, size_t n)
 {
     const size_t lap = (RING - 1) / n;
-    size_t left = many(40000);
-    const size_t total = left;
+    const size_t total = many(20000);
+    size_t left = lap + total; /* the first lap fetches the memory, and is not timed */
     double spent = 0;
     s->setup(medium, MEDIUM);
     while (left != 0) {
@@ -79,7 +94,7 @@ static double appends(const subject *s, size_t n)
         if (!s->append(medium, MEDIUM, payload, n, times)) {
             fail("an append was refused");
         }
-        spent += now() - from;
+        spent += left > total ? 0 : now() - from;
         if (!s->release(medium, MEDIUM)) {
             fail("a release was refused");
         }
@@ -90,7 +105,7 @@ static double appends(const subject *s, size_t n)
 
 static double copies(size_t n)
 {
-    const size_t lap = RING / n, total = many(400000);
+    const size_t lap = RING / n, total = many(100000);
     size_t i;
     const double from = now();
     for (i = 0; i < total; i++) {
@@ -102,7 +117,7 @@ static double copies(size_t n)
 
 static double reads(const subject *s, size_t n)
 {
-    const size_t times = many(200000);
+    const size_t times = many(50000);
     double from;
     s->setup(medium, MEDIUM);
     if (!s->append(medium, MEDIUM, payload, n, 10)) {
@@ -117,7 +132,7 @@ static double reads(const subject *s, size_t n)
 
 static double openings(const subject *s)
 {
-    const size_t times = many(100000);
+    const size_t times = many(50000);
     double from;
     s->setup(medium, MEDIUM);
     from = now();
@@ -131,7 +146,7 @@ static volatile uint64_t sink;
 
 static double checksums(const subject *s, size_t n)
 {
-    const size_t times = many(n > 1000 ? 5000 : 200000);
+    const size_t times = many(n > 1000 ? 1000 : 50000);
     const double from = now();
     sink = s->crc(payload, n, times);
     return (now() - from) / (double)times;
@@ -140,12 +155,13 @@ static double checksums(const subject *s, size_t n)
 #ifdef HAVE_LZMA
 static double lzma_checksums(size_t n)
 {
-    const size_t times = many(n > 1000 ? 5000 : 200000);
+    const size_t times = many(n > 1000 ? 1000 : 50000);
     const double from = now();
     uint64_t sum = 0;
     size_t i;
     for (i = 0; i < times; i++) {
         sum += lzma_crc64(payload, n, 0);
+        __asm__ volatile("" ::: "memory"); /* it is declared pure, and each one is to be computed */
     }
     sink = sum;
     return (now() - from) / (double)times;
@@ -174,8 +190,8 @@ static void make_pool(void)
 static double pmemlog_appends(size_t n)
 {
     const size_t lap = (RING - 1) / n;
-    size_t left = many(40000);
-    const size_t total = left;
+    const size_t total = many(20000);
+    size_t left = lap + total; /* the first lap fetches the memory, and is not timed */
     double spent = 0;
     while (left != 0) {
         const size_t times = left < lap ? left : lap;
@@ -188,7 +204,7 @@ static double pmemlog_appends(size_t n)
                 fail(pmemlog_errormsg());
             }
         }
-        spent += now() - from;
+        spent += left > total ? 0 : now() - from;
         left -= times;
     }
     return spent / (double)total;
@@ -254,15 +270,34 @@ static void row(const char *what, size_t n, int ours, int hand, int other, const
     printf("| %s | %s | %.1f | %.1f | %.2f | %s |\n", what, size, a, b, a / b, others);
 }
 
+/* a goal: for each size, how many times the other's time is enough; `other` is a cell of the first size */
+static void goal(const char *what, int ours, int other, const double *enough)
+{
+    int i;
+    printf("| %s |", what);
+    for (i = 0; i < 30; i += 10) {
+        const double ratio = cells[other].noted ? median(&cells[ours + i]) / median(&cells[other + i]) : 0;
+        if (ratio == 0) {
+            printf(" not measured |");
+        } else {
+            printf(" %s, %.3f |", ratio <= *enough++ ? "reached" : "not reached", ratio);
+        }
+    }
+    printf("\n");
+}
+
 int main(int count, char **words)
 {
     static const size_t sizes[] = {64, 300, 4096};
     static const size_t sums[] = {24, 4096};
+    static const double flushed[] = {1.15, 1.15, 1.15}, plain[] = {2, 1.5, 1.3}, faster[] = {1, 1, 1};
     const char *by;
+    char what[80];
     size_t i;
-    int round, rounds;
+    int turn, all;
     quick = count > 1 && strcmp(words[1], "--quick") == 0;
-    rounds = quick ? 1 : ROUNDS;
+    turns = quick ? 1 : TURNS;
+    all = quick ? 1 : ROUNDS * TURNS;
     medium = aligned_alloc(64, MEDIUM + 64 - MEDIUM % 64);
     if (medium == NULL) {
         fail("no memory");
@@ -272,6 +307,9 @@ int main(int count, char **words)
         payload[i] = (uint8_t)(i * 7 + 1);
     }
     by = choose_write_back();
+    if (by == NULL) {
+        fail("the lines of this processor's cache have another length");
+    }
     same_bytes(&ours_plain, &peer_plain);
     same_bytes(&ours_flushed, &peer_flushed);
 #ifdef HAVE_PMEMLOG
@@ -280,7 +318,7 @@ int main(int count, char **words)
     }
     make_pool();
 #endif
-    for (round = 0; round < rounds; round++) {
+    for (turn = 0; turn < all; turn++) {
         for (i = 0; i < 3; i++) {
             cell *const c = &cells[10 * i];
             note(&c[0], appends(&ours_plain, sizes[i]));
@@ -307,12 +345,11 @@ int main(int count, char **words)
     printf("| what | bytes | Blackboxlog, ns | C by hand, ns | ratio | others, ns (ratio to them) |\n| --- | --- | --- | --- | --- | --- |\n");
     for (i = 0; i < 3; i++) {
         const int c = 10 * (int)i;
-        row("append, hooks empty", sizes[i], c, c + 1, c + 4, "memcpy", cells[c + 7].rounds ? c + 7 : -1, "libpmemlog");
+        row("append, hooks empty", sizes[i], c, c + 1, c + 4, "memcpy", cells[c + 7].noted ? c + 7 : -1, "libpmemlog");
     }
     for (i = 0; i < 3; i++) {
         const int c = 10 * (int)i;
-        char what[48];
-        snprintf(what, sizeof what, "append, %s and sfence", by);
+        snprintf(what, sizeof what, "append, %s", by);
         row(what, sizes[i], c + 2, c + 3, -1, "", -1, "");
     }
     for (i = 0; i < 3; i++) {
@@ -322,7 +359,12 @@ int main(int count, char **words)
     row("open", 0, 30, 31, -1, "", -1, "");
     for (i = 0; i < 2; i++) {
         const int c = 40 + 10 * (int)i;
-        row("checksum", sums[i], c, c + 1, cells[c + 2].rounds ? c + 2 : -1, "liblzma", -1, "");
+        row("checksum", sums[i], c, c + 1, cells[c + 2].noted ? c + 2 : -1, "liblzma", -1, "");
     }
+    printf("\n| goal | 64 bytes | 300 bytes | 4096 bytes |\n| --- | --- | --- | --- |\n");
+    snprintf(what, sizeof what, "append, %s: at most 1.15 times C by hand", by);
+    goal(what, 2, 3, flushed);
+    goal("append, hooks empty: at most 2, 1.5 and 1.3 times C by hand", 0, 1, plain);
+    goal("append, hooks empty: faster than libpmemlog", 0, 7, faster);
     return 0;
 }

@@ -24,7 +24,8 @@ typedef struct {
 
 extern const subject ours_plain, ours_flushed, peer_plain, peer_flushed;
 
-/* how lines of the cache are written back, by what the processor has */
+/* how lines of the cache are written back and waited for, by what the processor has, and that in words; NULL if its lines have another length */
+enum { LINE = 64 };
 extern void (*write_back)(const void *address, size_t length);
 const char *choose_write_back(void);
 void fence(void);

@@ -52,6 +52,9 @@
  *
  *   #define BBL_WRITTEN(address, length) my_write_back(address, length)   // _mm_clwb for each line
  *   #define BBL_FLUSH() _mm_sfence()
+ *
+ * The pieces of a header are several puts in one line. BBL_WRITTEN may keep back a put that is shorter than a line, until a put elsewhere comes
+ * or the flush, and so write that line back once.
  */
 #ifndef BLACKBOXLOG_H
 #define BLACKBOXLOG_H
