@@ -14,11 +14,12 @@
  * n - 73. The library keeps nothing between two calls, allocates nothing and calls nothing; calls on different media may run at once.
  *
  * A HANDLE is the log's numbers, kept by the caller. Opening answers one, and every operation that writes answers the next. There must be
- * one for a medium: an old handle, or a second one, is not recognized, and an operation through it destroys what was written since. A
- * handle that can't be a log of the medium's length is refused by every call (BBL_BAD_HANDLE).
+ * one for a medium: an old handle, or a second one, is not recognized, and an operation through it destroys what was written since; it can
+ * bring back a head whose bytes are overwritten, and if it is cut it can leave a medium that does not open. A handle that can't be a log
+ * of the medium's length is refused by every call (BBL_BAD_HANDLE).
  *
  * A REPLY has a code, BBL_OK or the reason of a refusal, and up to two numbers, which the list of codes below explains. Fields that a code
- * does not name are 0. A refusal has written nothing.
+ * does not name are 0. A refusal has written nothing; only BBL_BROKEN_PLAN, which is no refusal, comes after something was written.
  *
  * WHAT IS ASKED OF THE MEMORY.
  *   1. The medium begins at an address that is a multiple of 8.
@@ -42,7 +43,8 @@
  * of a file, and a write did not reach that, read it anew first.
  *
  * IN ONE CALL: bbl_setup, bbl_append and bbl_advance make a plan and carry it out, with hooks for the memory. Define them before this header
- * is included; each does nothing by default, which is right for memory that needs no flush, and for trying things out.
+ * is included; each does nothing by default, which is right for trying things out, and for memory on which all stores are there for good in
+ * the program's order, as long as the archive is not inlined into its caller; elsewhere BBL_FLUSH is at least a fence.
  *
  *   BBL_WRITTEN(address, length)   after each put: these bytes were written. Begin to write them back.
  *   BBL_FLUSH()                    at each flush: wait until all that was written is there for good.
@@ -124,12 +126,16 @@
 #define BBL_STEP_PUT 0
 /* Nothing was written. Flush, before the next step. */
 #define BBL_STEP_FLUSH 1
-/* Nothing was written: there is no such step in the plan, or it does not fit the medium or the bytes. */
+/* Nothing was written: these six numbers of the plan are not there, or are no step, or it does not fit the medium or the bytes. A step at
+ * or behind `steps` of the reply is not recognized as such, as the slice may hold more than the plan: stop there. */
 #define BBL_STEP_REFUSED 2
 
 #ifdef __cplusplus
 extern "C" {
 #endif
+
+/* the archive's lengths have 64 bits */
+typedef char bbl_size_t_has_64_bits[sizeof(size_t) == 8 ? 1 : -1];
 
 typedef struct {
     uint64_t live; /* the live header: 0 the first, 1 the second */

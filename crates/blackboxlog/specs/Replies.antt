@@ -1,8 +1,13 @@
 -- The answers of the operations as the boundary hands them over: codes and numbers. Assumes nothing.
-use Prim.Native.Nat.{ℕ}
+use Prim.Native.Nat.{ℕ, _+_, _-_, _≤_}
+use mathlib.Core.Path.{_≡_}
 use mathlib.Core.Bool.{Bool, true, false, cond}
+use mathlib.Core.List.{List}
 use lib.Dec.{eqb, leb}
+use lib.ListN.{length, take, drop}
 use Rattle.carrier.specs.declared.Done.{Done}
+use Rattle.log.specs.Opening.{view, possible}
+use Rattle.log.specs.Operations.{readInto}
 use Rattle.log.specs.declared.Handle.{Handle}
 use Rattle.log.specs.declared.Opened.{Opened}
 use Rattle.log.specs.declared.SetUp.{SetUp}
@@ -95,3 +100,10 @@ abbrev pub stepReply : Done → Stepped
 stepReply (Done.Put a n) = record { code = 0; at = a; length = n }
 stepReply Done.Flush = record { code = 1; at = 0; length = 0 }
 stepReply Done.Refused = record { code = 2; at = 0; length = 0 }
+
+-- WHAT JOINS the contracts of the boundary to the log: a handle that was answered means the same when it is handed back; and what a read
+-- that is not refused leaves in its buffer is that part of the log's bytes
+pub record Boundary : Type 0 where
+  pub handle : (h : Handle) → (known (keptOf h) ≡ true) × (handleOf (keptOf h) ≡ h)
+  pub read : (m out : List ℕ) (h : Handle) (p : ℕ) → possible h (length m) ≡ true → h .head ≤ p → p + length out ≤ h .tail
+      → readInto m h p out ≡ take (length out) (drop (p - h .head) (view h m .bytes))

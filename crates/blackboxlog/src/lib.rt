@@ -12,7 +12,7 @@ ghost use Rattle.log.specs.Log.{append, advance};
 ghost use Rattle.log.specs.Opening.{openOf};
 ghost use Rattle.log.specs.Operations.{planOf, appendOf, advanceOf, readOf, readInto, askOf, setUpOf, setUpPlan};
 ghost use Rattle.operations.specs.Planning.{planWords, ifRoom, Planned};
-ghost use Rattle.blackboxlog.specs.Replies.{side, said, planSaid, done, handleOf, ifKnown, badHandle, openedReply, setUpReply, appendedReply, advancedReply, gotReply, numbersReply, stepReply};
+ghost use Rattle.blackboxlog.specs.Replies.{side, said, planSaid, done, handleOf, ifKnown, badHandle, openedReply, setUpReply, appendedReply, advancedReply, gotReply, numbersReply, stepReply, Boundary};
 use carrier::Done;
 use log::Advanced;
 use log::Appended;
@@ -357,3 +357,8 @@ pub extern "C" fn bbl_ask(medium: &[u8], handle: Kept) -> Reply
     }
     numbers_reply(operations::get_head_and_tail(handle_of(handle), medium.len() as u64))
 }
+
+// What joins these contracts to the log: `Boundary` of specs/Replies.antt.
+pub fn joined()
+    ensures { λ _. ⌜ Boundary ⌝ }
+{}

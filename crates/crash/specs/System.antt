@@ -1,6 +1,6 @@
 -- What a system on a medium is, what can happen to it, and the statement that it survives: `Survives`.
--- For: the one log, and every system after it. Nothing here knows of logs. A program that ends while the power stays, wherever it is, and
--- starts again, flushes before it opens: that is a cut at which everything arrived (`all-arrived` of the device's remarks), so what is
+-- For: the one log, and every system after it. Nothing here knows of logs. A program that ends between two steps while the power stays,
+-- and starts again, flushes before it opens: that is a cut at which everything arrived (`all-arrived` of the device's remarks), so what is
 -- said of cuts holds of it. Assumes nothing.
 use Prim.Native.Nat.{ℕ}
 use mathlib.Core.Path.{_≡_}

@@ -18,4 +18,4 @@ far : (a b w n : ℕ) → distance (bits 64 a) (bits 64 b) ≡ 25 → n < 25 →
 far a b w n d k h e = omega (arith, ap (λ (x : ℕ). distance (bits 64 a) (bits 64 x)) e, d)
 
 pub apart : Apart
-apart = (λ w. far first second w _ there (lit< tt), λ w. far second first w _ back (lit< tt))
+apart = (there, λ w. far first second w _ there (lit< tt), λ w. far second first w _ back (lit< tt))

@@ -21,6 +21,8 @@ unfolding bits bitsOf number onto divide remainder generator crcOf distance low
 examples =
     record {
       check = refl;
+      zero = refl;
+      one = refl;
       empty = refl;
       hundred = refl;
       smallest = refl;

@@ -44,7 +44,7 @@ pub record Block (s : List ℕ) : Type 0 where
   pub right : Right s
 
 -- a stored block's bits in the order in which the CRC takes them: the content, each byte from its lowest bit; then the checksum from its
--- lowest bit. In the order in which they are stored nothing of this kind is true: the checksum comes first there.
+-- lowest bit. In the order in which they are stored, checksum first, it is not true, not even of 60 bits: `close` of the examples.
 abbrev pub taken : List ℕ → List Bool
 taken s = bitsOf (drop 8 s) ++ bitsOf (take 8 s)
 
@@ -69,7 +69,7 @@ Odd = (s t : List ℕ) → Block s → Block t → length s ≡ length t → fli
 abbrev pub Few : Type 0
 Few = (s t : List ℕ) → Block s → Block t → length s ≡ length t → length s ≤ 4095 → (s ≡ t) ⊎ (8 ≤ flips s t)
 
--- (e) TWO WORDS that name one of two places: what is within 24 flipped bits of one of them is not the other.
+-- (e) TWO WORDS that name one of two places differ in 25 bits: what is within 24 flipped bits of one of them is not the other.
 abbrev pub first : ℕ
 first = 0xa328_42d1_9001_605e
 
@@ -78,7 +78,8 @@ second = 0xab21_aa73_0695_31b7
 
 abbrev pub Apart : Type 0
 Apart =
-    ((w : ℕ) → distance (bits 64 first) (bits 64 w) ≤ 24 → w ≡ second → ⊥)
+    (distance (bits 64 first) (bits 64 second) ≡ 25)
+    × ((w : ℕ) → distance (bits 64 first) (bits 64 w) ≤ 24 → w ≡ second → ⊥)
     × ((w : ℕ) → distance (bits 64 second) (bits 64 w) ≤ 24 → w ≡ first → ⊥)
 
 pub record Refuses : Type 0 where

@@ -21,6 +21,9 @@ damaged = le 0x8eb6_c6d6_48f4_39d5 ++ header 1679 100 4024
 pub record Examples : Type 0 where
   -- the digits 1 to 9 as text
   pub check : crcOf (49 ∷ 50 ∷ 51 ∷ 52 ∷ 53 ∷ 54 ∷ 55 ∷ 56 ∷ 57 ∷ []) ≡ 0x995d_c9bb_df19_39fa
+  -- the digits 0 and 1
+  pub zero : crcOf (48 ∷ []) ≡ 0x9901_423b_9732_9582
+  pub one : crcOf (49 ∷ []) ≡ 0x2a2f_0e85_9495_caed
   pub empty : crcOf (header 0 0 4024) ≡ 0x329f_c849_810e_7b1d
   pub hundred : crcOf (header 0 100 4024) ≡ 0x4f7d_438f_09d1_b9d5
   pub smallest : crcOf (header 0 0 1) ≡ 0x6c28_1743_84cf_2c2c

@@ -5,7 +5,7 @@ use mathlib.Core.Path.{_≡_}
 use mathlib.Core.Logic.{_⊎_, _↔_}
 use mathlib.Core.List.{List, [], _∷_, List·Memᴰ}
 use lib.ListN.{length, getD}
-use Rattle.device.specs.Device.{Write, write, Step, put, flush, Device, still, seen, step, upto, Left}
+use Rattle.device.specs.Device.{Write, write, Step, put, flush, Device, still, seen, step, after, upto, Left}
 
 -- with one write under way, each aligned piece of eight bytes is old or new
 pub record Torn (m : List ℕ) (w : Write) (m′ : List ℕ) : Type 0 where
@@ -39,3 +39,5 @@ pub record Remarks : Type 0 where
       → ((k : ℕ) → k / 8 ≡ p → getD m′ k 0 ≡ getD (write m w) k 0) → ((k : ℕ) → (k / 8 ≡ p → ⊥) → getD m′ k 0 ≡ getD m k 0) → Left d m′
   -- what could be left before a write can be left after it
   pub write-takes-nothing : (d : Device) (m : List ℕ) (w : Write) → Left d m → Left (step d (put w)) m
+  -- a flush more, wherever it is, leaves nothing new: so what holds of a plan's cuts holds too with a flush after every write
+  pub more-flushes : (d : Device) (ps : List Step) (m : List ℕ) → Left (after (step d flush) ps) m → Left (after d ps) m
