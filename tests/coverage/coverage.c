@@ -88,6 +88,17 @@ static void near_buffers(void) {
     }
 }
 
+// Media that end in or before a header: planning looks at the header that is not live all the same.
+static void short_media(void) {
+    static uint8_t medium[80];
+    uint64_t plan[BBL_PLAN_WORDS];
+    for (size_t length = 0; length <= sizeof medium; length++) {
+        for (uint64_t live = 0; live < 2; live++) {
+            stepped_plan_append(medium, length, (bbl_handle){live, 0, 0, 1}, 0, plan, BBL_PLAN_WORDS);
+        }
+    }
+}
+
 // A log that is used for a while: of the header that is written next some pieces stand there already; after two appends of
 // nothing all of them do.
 static void usual_life(void) {
@@ -132,6 +143,7 @@ int main(int count, char **words) {
     checksums();
     reads();
     near_buffers();
+    short_media();
     usual_life();
     // until nothing new was found for some time
     fuzz f = fuzz_of(&stepped);
