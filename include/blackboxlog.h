@@ -19,7 +19,8 @@
  * of the medium's length is refused by every call (BBL_BAD_HANDLE).
  *
  * A REPLY has a code, BBL_OK or the reason of a refusal, and up to two numbers, which the list of codes below explains. Fields that a code
- * does not name are 0. A refusal has written nothing; only BBL_BROKEN_PLAN, which is no refusal, comes after something was written.
+ * does not name are 0; `steps` is that of the plan, where there is one. A refusal has written nothing; only BBL_BROKEN_PLAN, which is no
+ * refusal, comes after something was written.
  *
  * WHAT IS ASKED OF THE MEMORY.
  *   1. The medium begins at an address that is a multiple of 8.

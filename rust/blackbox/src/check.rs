@@ -15,7 +15,11 @@ pub fn report(medium: &[u8]) -> (String, bool) {
         line(&mut text, format!("length: {} bytes, a ring of {}", medium.len(), ring));
         line(&mut text, format!("selector at 0: {:016x}, {}", front.selector, selector(&front)));
         for (which, header) in front.headers() {
-            let live = if front.live() == Some(which) { ", live" } else { "" };
+            let live = match front.live() {
+                Some(live) if live == which => ", live",
+                Some(_) => ", not live",
+                None => "",
+            };
             line(&mut text, format!("{} header at {}{}: {}", which, header_at(which), live, judged(header, ring)));
         }
         if opened.is_err() {

@@ -55,6 +55,15 @@ impl Front {
     }
 }
 
+/// Whether a medium, of any length, may hold what is left of a log: its selector is one of the two values, or one with a few bits flipped (zeros
+/// are farther away), or one of the headers is right.
+pub fn remains(medium: &[u8]) -> bool {
+    let near = |value: u64| (number_at(medium, 0) ^ value).count_ones() <= 12;
+    let selector = medium.len() >= 8 && (near(SELECTOR_OF_FIRST) || near(SELECTOR_OF_SECOND));
+    let right = |front: Front| front.headers().iter().any(|(_, header)| header.is_right() && header.size != 0);
+    selector || Front::of(medium).map_or(false, right)
+}
+
 pub struct Header {
     pub stored: u64,
     pub computed: u64,
@@ -77,11 +86,6 @@ impl Header {
 
     pub fn is_right(&self) -> bool {
         self.stored == self.computed
-    }
-
-    /// Whether it keeps bytes, as far as it can be believed.
-    pub fn keeps_bytes(&self) -> bool {
-        self.is_right() && self.head < self.tail
     }
 
     /// Which of its numbers no log on a medium with such a ring has.

@@ -33,6 +33,11 @@ impl Image {
         };
         take(&file, &name, Lock::ToRead)?;
         let length = length_of(&mut file, &name)?;
+        Image::of(file, name, length)
+    }
+
+    /// The image in a file that is locked.
+    fn of(file: File, name: String, length: u64) -> Result<Image, Failure> {
         let space = space_for(length)?;
         let mut image = Image { file, name, space };
         image.load_front()?;
@@ -88,6 +93,9 @@ impl Image {
     pub fn into_log(mut self) -> Result<(Log<Space>, Disk), Failure> {
         self.release();
         take(&self.file, &self.name, Lock::ToWrite)?;
+        if length_of(&mut self.file, &self.name)? != self.length() {
+            return refused(format!("{}: its length has changed", self.name));
+        }
         self.file.sync_data().or_else(|error| refused(format!("{}: {}", self.name, error)))?;
         self.load_front()?;
         let mut log = Log::on(self.space);
@@ -108,27 +116,22 @@ pub struct Disk {
 }
 
 impl Disk {
-    /// Opens a file for an image of so many bytes, or makes it. What stands in it stays, up to that length.
-    pub fn make(path: &Path, length: u64) -> Result<Disk, Failure> {
+    /// Opens a file for an image of so many bytes, or makes it. What stands in it stays, up to that length. `look` may refuse what is there: it
+    /// looks when no other program can change it any more.
+    pub fn make(path: &Path, length: u64, look: impl Fn(&Image) -> Result<(), Failure>) -> Result<Disk, Failure> {
         let name = path.display().to_string();
-        let opened = OpenOptions::new().read(true).write(true).create(true).truncate(false).open(path);
-        let sized = opened.and_then(|mut file| {
-            if !lock(&file, Lock::ToWrite) {
-                return Err(io::Error::new(io::ErrorKind::WouldBlock, IN_USE));
-            }
-            if file.metadata()?.is_file() {
-                file.set_len(length)?;
-                file.sync_all()?;
-                return Ok((file, length));
-            }
-            let found = file.seek(SeekFrom::End(0))?;
-            Ok((file, found))
-        });
-        match sized {
-            Ok((file, found)) if found == length => Ok(Disk { file, name }),
-            Ok((_, found)) => refused(format!("{}: it has {} bytes, and its length can't be changed", name, found)),
-            Err(error) => refused(format!("{}: {}", name, error)),
+        let named = |error: io::Error| Failure::Refused(format!("{}: {}", name, error));
+        let mut file =
+            OpenOptions::new().read(true).write(true).create(true).truncate(false).open(path).map_err(named)?;
+        take(&file, &name, Lock::ToWrite)?;
+        let found = length_of(&mut file, &name)?;
+        look(&Image::of(file.try_clone().map_err(named)?, name.clone(), found)?)?;
+        if file.metadata().map_err(named)?.is_file() {
+            file.set_len(length).and_then(|()| file.sync_all()).map_err(named)?;
+        } else if found != length {
+            return refused(format!("{}: it has {} bytes, and its length can't be changed", name, found));
         }
+        Ok(Disk { file, name })
     }
 
     /// Carries out an operation: each step's bytes are written in place, and where the plan has a flush the file is synced.

@@ -36,7 +36,7 @@ fn main() {
 }
 
 fn told(why: &str, status: i32) -> i32 {
-    let _ = writeln!(io::stderr(), "blackbox: {}", why);
+    let _ = writeln!(io::stderr(), "blackbox: {}", why.trim_end());
     status
 }
 
@@ -63,23 +63,28 @@ fn say(text: &str) -> Result<(), Failure> {
     out.write_all(text.as_bytes()).and_then(|()| out.flush()).map_err(output)
 }
 
+/// Says what was done to an image. If that can't be said on standard output, it is said with the failure: it was done all the same.
+fn done(what: &str, text: &str) -> Result<(), Failure> {
+    let mut out = io::stdout().lock();
+    let said = out.write_all(text.as_bytes()).and_then(|()| out.flush());
+    said.or_else(|error| refused(format!("{}, but standard output: {}", what, error)))
+}
+
 fn format(words: &Words) -> Result<(), Failure> {
     let path = Path::new(&words.given[0]);
     let length = size(&words.given[1])?;
     // planned before anything is touched
     let mut log = Log::on(space_for(length)?);
     let plan = log.begin_setup()?;
-    if is_there(path)? && !words.has("--force") {
-        spare(&Image::open(path, true)?)?;
-    }
-    let capacity = Disk::make(path, length)?.carry_out(plan)?;
-    say(&format!("capacity {}\n", capacity))
+    is_there(path)?;
+    let look = |image: &Image| if words.has("--force") { Ok(()) } else { spare(image) };
+    let capacity = Disk::make(path, length, look)?.carry_out(plan)?;
+    done(&format!("it is formatted with a capacity of {}", capacity), &format!("capacity {}\n", capacity))
 }
 
 /// Refuses to format over a log, or over what may be left of one.
 fn spare(image: &Image) -> Result<(), Failure> {
-    let front = format::Front::of(image.medium());
-    let remains = front.map_or(false, |front| front.headers().iter().any(|(_, header)| header.keeps_bytes()));
+    let remains = format::remains(image.medium());
     match image.reader().and_then(|log| log.ask()) {
         Ok(log) => {
             refused(format!("{}: it holds a log that keeps {} bytes; --force formats it", image.name(), log.kept()))
@@ -125,9 +130,13 @@ fn append(words: &Words) -> Result<(), Failure> {
         }
         _ => at_most(io::stdin().lock(), room, &"standard input")?,
     };
+    // what was read to its end fits, or is refused: there may be more room by now, but not all of it was read
+    if bytes.len() as u64 > room {
+        return Err(Error::NoRoom { room }.into());
+    }
     let (mut log, disk) = image.into_log()?;
     let position = disk.carry_out(log.begin_append(&bytes)?)?;
-    say(&format!("at {}\n", position))
+    done(&format!("appended at {}", position), &format!("at {}\n", position))
 }
 
 /// All bytes of a source, or one more than there is room for: enough for a refusal.
@@ -153,9 +162,9 @@ fn at_most(mut from: impl Read, room: u64, name: &dyn std::fmt::Display) -> Resu
 }
 
 fn read(words: &Words) -> Result<(), Failure> {
-    let mut image = Image::open(Path::new(&words.given[0]), false)?;
     let position = number(&words.given[1])?;
     let length = number(&words.given[2])?;
+    let mut image = Image::open(Path::new(&words.given[0]), false)?;
     show(&mut image, Some((position, length)))
 }
 
@@ -195,7 +204,7 @@ fn advance(words: &Words) -> Result<(), Failure> {
     let image = Image::open(Path::new(&words.given[0]), true)?;
     let (mut log, disk) = image.into_log()?;
     disk.carry_out(log.begin_advance(position)?)?;
-    say(&format!("head {}\n", position))
+    done(&format!("the head is at {}", position), &format!("head {}\n", position))
 }
 
 fn check(words: &Words) -> Result<(), Failure> {
@@ -211,7 +220,8 @@ fn check(words: &Words) -> Result<(), Failure> {
 
 fn map(words: &Words) -> Result<(), Failure> {
     let image = Image::open(Path::new(&words.given[0]), false)?;
-    let map = map::Map::of(image.name(), image.medium())?;
+    let drawn = map::Map::of(image.name(), image.medium());
+    let map = drawn.or_else(|error| refused(format!("{}: {}", image.name(), error)))?;
     say(&if words.has("--svg") { map.svg() } else { map.text() })
 }
 

@@ -38,7 +38,7 @@ const COMMANDS: [About; 9] = [
         short: "make an image of SIZE bytes with an empty log",
         long: "SIZE is in bytes, at least 73; K, M, G and T behind it stand for powers of 1024. The log's capacity is 73 bytes less, and is
 printed. A file that is not there is made; one that is there gets this length. If it holds a log, or what may be left of one, it is
-refused, unless --force is given.
+refused, unless --force is given. Whatever else stands in it is lost.
 
 A power cut while a log is formatted over leaves the old log, the new one, or an image that is damaged. If SIZE is not the length that the
 file had, the old log is lost as soon as the file has its new length.
@@ -107,7 +107,7 @@ A power cut leaves the log before or the log after; after, once the head is prin
         options: &[],
         short: "say what stands on an image, and what is wrong with it",
         long: "Prints the selector and both headers with their offsets, stored and computed checksums and numbers, and whether that is a log. The
-exit status is 0 if it is one, and 1 if not.
+header that is not live may hold anything: a wrong checksum there is no fault. The exit status is 0 if it is a log, and 1 if not.
 ",
     },
     About {
@@ -118,7 +118,8 @@ exit status is 0 if it is one, and 1 if not.
         options: &["--svg"],
         short: "draw selector, headers and ring",
         long: "Draws a picture on standard output, in characters or with --svg as SVG. In the row of characters that is the ring a # stands for
-kept bytes, a . for free ones, and a + for some of both. An image that is no log is drawn too, as far as it is known.
+kept bytes, a . for free ones, and a + for some of both. An image of 73 bytes or more that is no log is drawn too, as far as it is known;
+the exit status is 0 then too.
 ",
     },
     About {
@@ -179,19 +180,32 @@ pub fn command(words: &[OsString]) -> Result<Asked, Failure> {
         None => return wrong_use(format!("no command\n\n{}", overview())),
     };
     if first == "--help" || first == "-h" || first == "help" {
-        return Ok(Asked::Say(match words.get(1).and_then(|word| find(word)) {
-            Some(about) => help(about),
-            None => overview(),
-        }));
+        return match words {
+            [_] => Ok(Asked::Say(overview())),
+            [_, word] => find(word).map_or_else(|| unknown(word), |about| Ok(Asked::Say(help(about)))),
+            _ => wrong_use("it is used as 'blackbox --help [COMMAND]'"),
+        };
     }
     if first == "--version" || first == "-V" {
-        return Ok(Asked::Say(format!("blackbox {}\n", blackboxlog::VERSION)));
+        return match words {
+            [_] => Ok(Asked::Say(format!("blackbox {}\n", blackboxlog::VERSION))),
+            _ => wrong_use("it is used as 'blackbox --version'"),
+        };
     }
     let about = match find(first) {
         Some(about) => about,
-        None => return wrong_use(format!("no such command: {}; try 'blackbox --help'", first.to_string_lossy())),
+        None => return unknown(first),
     };
     sorted(about, &words[1..])
+}
+
+fn unknown(word: &OsStr) -> Result<Asked, Failure> {
+    wrong_use(format!("no such command: {}; try 'blackbox --help'", word.to_string_lossy()))
+}
+
+/// How a command is used.
+fn form(about: &About) -> String {
+    format!("blackbox {} {}", about.name, about.words).trim_end().to_string()
 }
 
 /// Options and other words of a command, each where it belongs. Behind -- there are no options.
@@ -209,14 +223,11 @@ fn sorted(about: &'static About, words: &[OsString]) -> Result<Asked, Failure> {
         } else if let Some(option) = about.options.iter().find(|option| **option == text) {
             found.options.push(option);
         } else {
-            return wrong_use(format!(
-                "no such option: {}; it is used as 'blackbox {} {}'",
-                text, about.name, about.words
-            ));
+            return wrong_use(format!("no such option: {}; it is used as '{}'", text, form(about)));
         }
     }
     if found.given.len() < about.takes.0 || found.given.len() > about.takes.1 {
-        return wrong_use(format!("it is used as 'blackbox {} {}'", about.name, about.words));
+        return wrong_use(format!("it is used as '{}'", form(about)));
     }
     Ok(Asked::Run(about.command, found))
 }
@@ -226,8 +237,7 @@ fn find(name: &OsStr) -> Option<&'static About> {
 }
 
 fn help(about: &About) -> String {
-    format!("blackbox {} {}\n\n{}.\n\n{}", about.name, about.words, capital(about.short), about.long)
-        .replace(" \n\n", "\n\n")
+    format!("{}\n\n{}.\n\n{}", form(about), capital(about.short), about.long)
 }
 
 fn capital(text: &str) -> String {
@@ -242,6 +252,7 @@ fn overview() -> String {
     text + "
 'blackbox COMMAND --help' says more of one; 'blackbox --version' says the version.
 Commands on the same image at the same time wait for each other, for five seconds at most.
-Exit status: 0 done; 1 refused, with the reason on standard error; 2 wrong use.
+Exit status: 0 done; 1 refused, with the reason on standard error; 2 wrong use. If an image was changed and the answer can't be written to
+standard output, the status is 1 too, and standard error says what was done. A closed standard input or output counts as empty.
 "
 }
