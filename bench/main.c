@@ -1,7 +1,7 @@
-/* bench [--quick]: how long appends, reads, openings and checksums take, beside the same log by hand in C, memcpy, liblzma and libpmemlog. Medians
+/* bench [--quick] [--ring KIB]: how long appends, reads, openings and checksums take, beside the same log by hand in C, memcpy, liblzma and libpmemlog. Medians
  * of five rounds; in a round all are measured in turn, eleven times, and the median counts. In nanoseconds and as ratios, and which goals they
  * reach. Before that the two logs are held against each other, byte for byte. --quick: one short round, which shows that everything works
- * and no time. */
+ * and no time. --ring KIB: a ring of another length than 256 KiB. */
 #define _GNU_SOURCE
 #include "subject.h"
 #include <inttypes.h>
@@ -17,12 +17,34 @@
 #include <unistd.h>
 #endif
 
-/* The ring is small enough to stay in a processor's second cache together with libpmemlog's file: a larger one measures where its pages happen
- * to be, and no two runs agree. */
-enum { ROUNDS = 5, TURNS = 11, RING = 1 << 18, MEDIUM = 72 + RING, LARGEST = 4096, CELLS = 64 };
+enum { ROUNDS = 5, TURNS = 11, LARGEST = 4096, CELLS = 64 };
+
+/* The ring is small enough to stay in a processor's second cache together with libpmemlog's file, unless --ring says otherwise: a larger one
+ * measures where its pages happen to be, and no two runs agree. */
+static size_t ring = 1 << 18, whole;
 
 static uint8_t *medium;
-static uint8_t payload[LARGEST], out[LARGEST];
+/* Where the payload is, and where a read goes, and the stack. A processor takes a load for one of what was just stored if the two addresses agree
+ * in their last twelve bits: how long a copy takes hangs on that, and so on where the linker put the buffers. So they are elsewhere in each
+ * turn, for all that are measured in it. */
+enum { PLACES = TURNS, PLACE = 4096 / TURNS / 16 * 16 };
+static uint8_t payloads[LARGEST + 4096] __attribute__((aligned(4096))), outs[LARGEST + 4096] __attribute__((aligned(4096)));
+static uint8_t *payload = payloads, *out = outs;
+static size_t shift;
+
+static void go_to(int place)
+{
+    shift = (size_t)(place % PLACES * PLACE);
+    payload = payloads + shift;
+    out = outs + (4096 - PLACE - shift) % 4096;
+}
+
+/* takes room from the stack, so that what is called stands elsewhere on it */
+#define ELSEWHERE()                                               \
+    do {                                                          \
+        char *const room = __builtin_alloca(16 + (shift * 5) % 4096); \
+        __asm__ volatile("" ::"r"(room) : "memory");              \
+    } while (0)
 static int quick, turns;
 
 static void fail(const char *what)
@@ -83,19 +105,20 @@ static size_t many(size_t usual)
 
 static double appends(const subject *s, size_t n)
 {
-    const size_t lap = (RING - 1) / n;
+    const size_t lap = (ring - 1) / n;
     const size_t total = many(20000);
     size_t left = lap + total; /* the first lap fetches the memory, and is not timed */
     double spent = 0;
-    s->setup(medium, MEDIUM);
+    ELSEWHERE();
+    s->setup(medium, whole);
     while (left != 0) {
         const size_t times = left < lap ? left : lap;
         const double from = now();
-        if (!s->append(medium, MEDIUM, payload, n, times)) {
+        if (!s->append(medium, whole, payload, n, times)) {
             fail("an append was refused");
         }
         spent += left > total ? 0 : now() - from;
-        if (!s->release(medium, MEDIUM)) {
+        if (!s->release(medium, whole)) {
             fail("a release was refused");
         }
         left -= times;
@@ -105,7 +128,7 @@ static double appends(const subject *s, size_t n)
 
 static double copies(size_t n)
 {
-    const size_t lap = RING / n, total = many(100000);
+    const size_t lap = ring / n, total = many(100000);
     size_t i;
     const double from = now();
     for (i = 0; i < total; i++) {
@@ -119,12 +142,13 @@ static double reads(const subject *s, size_t n)
 {
     const size_t times = many(50000);
     double from;
-    s->setup(medium, MEDIUM);
-    if (!s->append(medium, MEDIUM, payload, n, 10)) {
+    ELSEWHERE();
+    s->setup(medium, whole);
+    if (!s->append(medium, whole, payload, n, 10)) {
         fail("an append was refused");
     }
     from = now();
-    if (!s->read(medium, MEDIUM, out, n, times) || memcmp(out, payload, n) != 0) {
+    if (!s->read(medium, whole, out, n, times) || memcmp(out, payload, n) != 0) {
         fail("a read was refused or wrong");
     }
     return (now() - from) / (double)times;
@@ -134,9 +158,9 @@ static double openings(const subject *s)
 {
     const size_t times = many(50000);
     double from;
-    s->setup(medium, MEDIUM);
+    s->setup(medium, whole);
     from = now();
-    if (!s->open(medium, MEDIUM, times)) {
+    if (!s->open(medium, whole, times)) {
         fail("an opening was refused");
     }
     return (now() - from) / (double)times;
@@ -189,10 +213,11 @@ static void make_pool(void)
 
 static double pmemlog_appends(size_t n)
 {
-    const size_t lap = (RING - 1) / n;
+    const size_t lap = (ring - 1) / n;
     const size_t total = many(20000);
     size_t left = lap + total; /* the first lap fetches the memory, and is not timed */
     double spent = 0;
+    ELSEWHERE();
     while (left != 0) {
         const size_t times = left < lap ? left : lap;
         size_t i;
@@ -295,16 +320,27 @@ int main(int count, char **words)
     char what[80];
     size_t i;
     int turn, all;
-    quick = count > 1 && strcmp(words[1], "--quick") == 0;
+    while (--count > 0) {
+        words++;
+        if (strcmp(*words, "--quick") == 0) {
+            quick = 1;
+        } else if (strcmp(*words, "--ring") == 0 && count > 1 && atoi(words[1]) >= 8 && atoi(words[1]) <= 1800) {
+            ring = (size_t)atoi(*++words) << 10;
+            count--;
+        } else {
+            fail("usage: bench [--quick] [--ring KIB], from 8 to 1800 KiB");
+        }
+    }
+    whole = 72 + ring;
     turns = quick ? 1 : TURNS;
     all = quick ? 1 : ROUNDS * TURNS;
-    medium = aligned_alloc(64, MEDIUM + 64 - MEDIUM % 64);
+    medium = aligned_alloc(64, whole + 64 - whole % 64);
     if (medium == NULL) {
         fail("no memory");
     }
-    memset(medium, 0, MEDIUM);
-    for (i = 0; i < LARGEST; i++) {
-        payload[i] = (uint8_t)(i * 7 + 1);
+    memset(medium, 0, whole);
+    for (i = 0; i < sizeof payloads; i++) {
+        payloads[i] = (uint8_t)(i * 7 + 1);
     }
     by = choose_write_back();
     if (by == NULL) {
@@ -319,6 +355,7 @@ int main(int count, char **words)
     make_pool();
 #endif
     for (turn = 0; turn < all; turn++) {
+        go_to(turn);
         for (i = 0; i < 3; i++) {
             cell *const c = &cells[10 * i];
             note(&c[0], appends(&ours_plain, sizes[i]));

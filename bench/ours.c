@@ -1,37 +1,10 @@
-/* Blackboxlog as a user calls it: bbl_append over plan and step. Compiled twice: with empty hooks, and with FLUSHED. */
+/* Blackboxlog as a user calls it: bbl_append over plan and step. Compiled twice: with empty hooks, and with FLUSHED, with those of the header's
+ * example. */
 #include "subject.h"
 
 #ifdef FLUSHED
-/* What was put and is not written back yet. The pieces of a header are several puts in one line of the cache: it is written back once, when a
- * put elsewhere comes, or the flush. */
-static uintptr_t from, to;
-
-static inline void written(const void *address, size_t length)
-{
-    const uintptr_t at = (uintptr_t)address, end = at + length;
-    if (length >= LINE) {
-        write_back(address, length);
-        return;
-    }
-    if (at / LINE <= to / LINE && from / LINE <= end / LINE) {
-        from = at < from ? at : from;
-        to = end > to ? end : to;
-        return;
-    }
-    write_back((const void *)from, to - from);
-    from = at;
-    to = end;
-}
-
-static inline void flush(void)
-{
-    write_back((const void *)from, to - from);
-    from = to = 0;
-    fence();
-}
-
-#define BBL_WRITTEN(address, length) written(address, length)
-#define BBL_FLUSH() flush()
+#define BBL_WRITTEN(address, length) write_back(address, length)
+#define BBL_FLUSH() fence()
 #define SUBJECT ours_flushed
 #else
 #define SUBJECT ours_plain

@@ -37,7 +37,7 @@
  *
  * PLAN AND STEP. An operation that writes has two parts. A bbl_plan_ function makes a plan: a few steps, each a put or a flush, and what the
  * operation answers once they are done. bbl_step makes one step. The caller carries out all steps in order, each once; at a flush it
- * flushes, before the next step. Nothing else keeps two writes apart: the compiler may merge stores within a function of the archive, and
+ * flushes, before the next step. bbl_make_step is the same and takes less time. Nothing else keeps two writes apart: the compiler may merge stores within a function of the archive, and
  * each makes at most one write. How many steps a plan has is the library's affair. A plan is for the medium as it is: carry it out before
  * anything else is written there. If it can't be carried out to its end, the medium is as after a power cut, and the handle is worthless: see
  * that everything that was written is there for good, and open the medium again. Where the medium is a copy in memory of something else, as
@@ -47,7 +47,8 @@
  * is included; each does nothing by default, which is right for trying things out, and for memory on which all stores are there for good in
  * the program's order, as long as the archive is not inlined into its caller; elsewhere BBL_FLUSH is at least a fence.
  *
- *   BBL_WRITTEN(address, length)   after each put: these bytes were written. Begin to write them back.
+ *   BBL_WRITTEN(address, length)   after puts, and before the next flush: these bytes were written, and perhaps not all of them. Begin to
+ *                                  write them back. Puts into one header are told at once.
  *   BBL_FLUSH()                    at each flush: wait until all that was written is there for good.
  *   BBL_PERSIST(address, length)   the simple form, alone and instead of the two: after each put, write these bytes back and wait.
  *
@@ -55,9 +56,6 @@
  *
  *   #define BBL_WRITTEN(address, length) my_write_back(address, length)   // _mm_clwb for each line
  *   #define BBL_FLUSH() _mm_sfence()
- *
- * The pieces of a header are several puts in one line. BBL_WRITTEN may keep back a put that is shorter than a line, until a put elsewhere comes
- * or the flush, and so write that line back once.
  */
 #ifndef BLACKBOXLOG_H
 #define BLACKBOXLOG_H
@@ -184,12 +182,14 @@ bbl_reply bbl_open(const uint8_t *medium, size_t medium_length);
  * Of the medium only the length is used; nothing is written to it. */
 bbl_reply bbl_plan_setup(const uint8_t *medium, size_t medium_length, uint64_t *plan, size_t words);
 
-/* PLANS TO APPEND `length` bytes. See bbl_append.
+/* PLANS TO APPEND `length` bytes. See bbl_append. The handle is handed over in its four numbers, for the sake of time; bbl_plan_append takes
+ * it as a struct.
  *
  * BBL_OK: the plan is in `plan` and has `steps` steps; number: the position of the first byte; handle: the log's, once all steps are done.
- * Refusals, in this order: BBL_BAD_HANDLE if handle.live is neither 0 nor 1; BBL_SHORT_PLAN; BBL_BAD_HANDLE; BBL_NO_ROOM.
+ * Refusals, in this order: BBL_BAD_HANDLE if live is neither 0 nor 1; BBL_SHORT_PLAN; BBL_BAD_HANDLE; BBL_NO_ROOM.
  * Nothing is written to the medium. Of its bytes planning looks at the header that is not live, and leaves out what would not change. */
-bbl_reply bbl_plan_append(const uint8_t *medium, size_t medium_length, bbl_handle handle, uint64_t length, uint64_t *plan, size_t words);
+bbl_reply bbl_plan_append_of(const uint8_t *medium, size_t medium_length, uint64_t live, uint64_t head, uint64_t tail, uint64_t size,
+                             uint64_t length, uint64_t *plan, size_t words);
 
 /* PLANS TO ADVANCE THE HEAD to a position. See bbl_advance.
  *
@@ -210,6 +210,12 @@ bbl_reply bbl_plan_advance(const uint8_t *medium, size_t medium_length, bbl_hand
 bbl_stepped bbl_step(uint8_t *medium, size_t medium_length, const uint64_t *plan, size_t words, const uint8_t *bytes, size_t length,
                      uint64_t i);
 
+/* THE TWO PUTS THAT STEPS MOSTLY ARE, without a plan: bbl_make_step calls them. Each answers how many bytes were put, or 0 and nothing is
+ * written. The first puts bytes[a] to bytes[b - 1] at an offset of the medium, if they are there and fit; the second a number, as 8 bytes from
+ * the lowest, if they fit. */
+uint64_t bbl_put_bytes(uint8_t *medium, size_t medium_length, uint64_t at, const uint8_t *bytes, size_t length, uint64_t a, uint64_t b);
+uint64_t bbl_put_number(uint8_t *medium, size_t medium_length, uint64_t at, uint64_t number);
+
 /* READS `length` bytes from a position on, into `out`. It writes nothing to the medium.
  *
  * Refusals, which leave `out` as it was: BBL_BAD_HANDLE; BBL_BEFORE_HEAD; BBL_BEYOND_TAIL (also where position + length passes 2^64 - 1). */
@@ -227,9 +233,6 @@ bbl_reply bbl_ask(const uint8_t *medium, size_t medium_length, bbl_handle handle
 
 /* ---- what follows is C over the archive's functions */
 
-#ifndef BBL_WRITTEN
-#define BBL_WRITTEN(address, length) ((void)(address), (void)(length))
-#endif
 #ifndef BBL_FLUSH
 #define BBL_FLUSH() ((void)0)
 #endif
@@ -289,23 +292,112 @@ static inline bbl_reply bbl_addresses_(const uint8_t *medium, size_t medium_leng
     return bbl_answer_(BBL_OK, 0);
 }
 
+/* As bbl_plan_append_of. */
+static inline bbl_reply bbl_plan_append(const uint8_t *medium, size_t medium_length, bbl_handle handle, uint64_t length, uint64_t *plan,
+                                        size_t words)
+{
+    return bbl_plan_append_of(medium, medium_length, handle.live, handle.head, handle.tail, handle.size, length, plan, words);
+}
+
+/* Of a plan: a step is six numbers, of which the first is its kind. The second says where bytes or a number are put; then come the first of the
+ * bytes and the one behind the last; or the number. */
+enum { BBL_SIX_ = 6, BBL_KIND_FLUSH_ = 0, BBL_KIND_BYTES_ = 1, BBL_KIND_NUMBER_ = 2 };
+
+static inline bbl_stepped bbl_did_(uint64_t code, uint64_t at, uint64_t length)
+{
+    bbl_stepped did;
+    did.code = code;
+    did.at = at;
+    did.length = length;
+    return did;
+}
+
+/* The step that six numbers are. A put that puts nothing is asked for again, from bbl_step, which says whether it was refused. */
+static inline bbl_stepped bbl_make_six_(uint8_t *medium, size_t medium_length, const uint64_t *six, const uint8_t *bytes, size_t length)
+{
+    uint64_t put = 0;
+    if (six[0] == BBL_KIND_FLUSH_) {
+        return bbl_did_(BBL_STEP_FLUSH, 0, 0);
+    }
+    if (six[0] == BBL_KIND_NUMBER_) {
+        put = bbl_put_number(medium, medium_length, six[1], six[2]);
+    } else if (six[0] == BBL_KIND_BYTES_) {
+        put = bbl_put_bytes(medium, medium_length, six[1], bytes, length, six[2], six[3]);
+    }
+    return put != 0 ? bbl_did_(BBL_STEP_PUT, six[1], put) : bbl_step(medium, medium_length, six, BBL_SIX_, bytes, length, 0);
+}
+
+/* CARRIES OUT STEP i of a plan, as bbl_step does, and answers the same. It takes less time: where the step is a flush it calls nothing, and
+ * where it is bytes or a number, as it mostly is, bbl_put_bytes or bbl_put_number. */
+static inline bbl_stepped bbl_make_step(uint8_t *medium, size_t medium_length, const uint64_t *plan, size_t words, const uint8_t *bytes,
+                                        size_t length, uint64_t i)
+{
+    return i < words / BBL_SIX_ ? bbl_make_six_(medium, medium_length, plan + BBL_SIX_ * i, bytes, length) : bbl_did_(BBL_STEP_REFUSED, 0, 0);
+}
+
+/* What was put, and BBL_WRITTEN is not told of yet: from an offset up to another; nothing if they are equal. Of puts that lie within 32 bytes it
+ * is told at once. */
+typedef struct {
+    uint64_t from, to;
+} bbl_untold_;
+
+static inline void bbl_tell_(uint8_t *medium, bbl_untold_ *untold)
+{
+#ifdef BBL_WRITTEN
+    if (untold->from != untold->to) {
+        BBL_WRITTEN(medium + untold->from, (size_t)(untold->to - untold->from));
+    }
+    untold->from = untold->to = 0;
+#else
+    (void)medium;
+    (void)untold;
+#endif
+}
+
+static inline void bbl_was_put_(uint8_t *medium, bbl_untold_ *untold, uint64_t at, uint64_t length)
+{
+    BBL_PERSIST(medium + at, (size_t)length);
+#ifdef BBL_WRITTEN
+    if (untold->from == untold->to || at < untold->from || at + length < untold->to || at + length - untold->from > 32) {
+        bbl_tell_(medium, untold);
+        untold->from = at;
+    }
+    untold->to = at + length;
+#else
+    (void)untold;
+#endif
+}
+
+/* Carries out so many steps of a plan, all of which are there, with the hooks. Answers the number of the first that was refused, or `steps`. */
+static inline uint64_t bbl_make_steps_(uint8_t *medium, size_t medium_length, const uint64_t *plan, const uint8_t *bytes, size_t length,
+                                       uint64_t steps)
+{
+    const uint64_t *const end = plan + BBL_SIX_ * steps;
+    const uint64_t *six;
+    bbl_untold_ untold = {0, 0};
+    for (six = plan; six != end; six += BBL_SIX_) {
+        const bbl_stepped done = bbl_make_six_(medium, medium_length, six, bytes, length);
+        if (done.code == BBL_STEP_FLUSH) {
+            bbl_tell_(medium, &untold);
+            BBL_FLUSH();
+        } else if (done.code != BBL_STEP_PUT) {
+            bbl_tell_(medium, &untold);
+            return (uint64_t)(six - plan) / BBL_SIX_;
+        } else if (done.length != 0) {
+            bbl_was_put_(medium, &untold, done.at, done.length);
+        }
+    }
+    bbl_tell_(medium, &untold);
+    return steps;
+}
+
 /* Carries out all steps of a plan that `planned` answered, with the hooks. Answers `planned`, or BBL_BROKEN_PLAN. */
 static inline bbl_reply bbl_carry_out(uint8_t *medium, size_t medium_length, const uint64_t *plan, size_t words, const uint8_t *bytes,
                                       size_t length, bbl_reply planned)
 {
-    uint64_t i;
-    for (i = 0; i < planned.steps; i++) {
-        const bbl_stepped done = bbl_step(medium, medium_length, plan, words, bytes, length, i);
-        if (done.code == BBL_STEP_FLUSH) {
-            BBL_FLUSH();
-        } else if (done.code != BBL_STEP_PUT) {
-            return bbl_answer_(BBL_BROKEN_PLAN, i);
-        } else if (done.length != 0) {
-            BBL_WRITTEN(medium + done.at, (size_t)done.length);
-            BBL_PERSIST(medium + done.at, (size_t)done.length);
-        }
-    }
-    return planned;
+    const uint64_t there = planned.steps < words / BBL_SIX_ ? planned.steps : words / BBL_SIX_;
+    const uint64_t made = bbl_make_steps_(medium, medium_length, plan, bytes, length, there);
+    return made == planned.steps ? planned : bbl_answer_(BBL_BROKEN_PLAN, made);
 }
 
 /* SETS UP an empty log on the medium, whatever stands on it.
@@ -342,17 +434,26 @@ static inline bbl_reply bbl_setup(uint8_t *medium, size_t medium_length)
 static inline bbl_reply bbl_append(uint8_t *medium, size_t medium_length, bbl_handle *handle, const uint8_t *bytes, size_t length)
 {
     uint64_t plan[BBL_PLAN_WORDS];
-    bbl_reply reply = bbl_addresses_(medium, medium_length, bytes, length);
-    if (reply.code == BBL_OK) {
-        reply = bbl_plan_append(medium, medium_length, *handle, length, plan, BBL_PLAN_WORDS);
+    const bbl_reply wrong = bbl_addresses_(medium, medium_length, bytes, length);
+    if (wrong.code != BBL_OK) {
+        return wrong;
     }
-    if (reply.code == BBL_OK) {
-        reply = bbl_carry_out(medium, medium_length, plan, BBL_PLAN_WORDS, bytes, length, reply);
+    {
+        /* The reply is used where it was answered, and of the next handle only what is new is copied, number by number: a copy of a struct
+         * that was just written, in larger pieces than it was written in, is what a processor waits for. */
+        const bbl_reply planned = bbl_plan_append(medium, medium_length, *handle, length, plan, BBL_PLAN_WORDS);
+        uint64_t made;
+        if (planned.code != BBL_OK) {
+            return planned;
+        }
+        made = bbl_make_steps_(medium, medium_length, plan, bytes, length, planned.steps);
+        if (made != planned.steps) {
+            return bbl_answer_(BBL_BROKEN_PLAN, made);
+        }
+        handle->live = planned.handle.live;
+        handle->tail = planned.handle.tail;
+        return planned;
     }
-    if (reply.code == BBL_OK) {
-        *handle = reply.handle;
-    }
-    return reply;
 }
 
 /* ADVANCES THE HEAD to a position: what is before it is no longer kept, and its room is free.

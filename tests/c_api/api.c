@@ -51,39 +51,47 @@ static void code_is(bbl_reply reply, uint64_t code, uint64_t number, uint64_t ot
 
 /* ---- hooks: what was told, in order */
 
+enum telling { WRITTEN, PERSIST, FLUSH };
+
 static struct {
+    enum telling hook;
     const uint8_t *address;
     size_t length;
-    int flush;
 } told[64];
-static unsigned tellings, persistings;
+static unsigned tellings;
+
+static void tell(enum telling hook, const uint8_t *address, size_t length)
+{
+    tellings %= 64; /* only one operation is looked at */
+    told[tellings].hook = hook;
+    told[tellings].address = address;
+    told[tellings].length = length;
+    tellings++;
+}
 
 static void written(const uint8_t *address, size_t length)
 {
-    tellings %= 64; /* only one operation is looked at */
-    told[tellings].address = address;
-    told[tellings].length = length;
-    told[tellings].flush = 0;
-    tellings++;
+    tell(WRITTEN, address, length);
 }
 
 static void flushed(void)
 {
-    tellings %= 64;
-    told[tellings].flush = 1;
-    tellings++;
+    tell(FLUSH, NULL, 0);
 }
 
 static void persisted(const uint8_t *address, size_t length)
 {
-    const unsigned last = tellings - 1;
-    persistings += !told[last].flush && told[last].address == address && told[last].length == length;
+    tell(PERSIST, address, length);
+}
+
+static int is_told(unsigned i, enum telling hook, const uint8_t *address, size_t length)
+{
+    return told[i].hook == hook && told[i].address == address && told[i].length == length;
 }
 
 static void forget(void)
 {
     tellings = 0;
-    persistings = 0;
 }
 
 /* ---- media */
@@ -276,7 +284,7 @@ static void refusals_write_nothing(void)
     ANSWERS(bbl_plan_append(medium, 100, log, 1, NULL, 0), BBL_SHORT_PLAN, BBL_PLAN_WORDS, 0);
     ANSWERS(bbl_plan_advance(medium, 100, log, 6, plan, 1), BBL_SHORT_PLAN, BBL_PLAN_WORDS, 0);
     CHECK(unchanged());
-    CHECK(tellings == 0 && persistings == 0);
+    CHECK(tellings == 0);
     CHECK(out[0] == 7 && out[15] == 7);
 }
 
@@ -294,38 +302,55 @@ static void no_bytes(void)
     CHECK(same(bbl_open(medium, 73).handle, log));
 }
 
-/* The hooks are told of every write, in order, and of nothing else; a flush stands before the selector's write and after it. */
-static void hooks(size_t length, bbl_handle log, int wraps)
+/* BBL_PERSIST is told of every put, in order, and of nothing else. BBL_WRITTEN is told of all of them before the flush, of those of a header at
+ * once. A flush stands before the selector's put and after it. */
+static void hooks(size_t length, bbl_handle log, unsigned runs)
 {
     const uint8_t *bytes = (const uint8_t *)"0123456789abcdef";
-    unsigned i, puts = 0;
+    unsigned i, k, since = 0, puts = 0, writings = 0;
     remember();
     forget();
     CHECK(bbl_append(medium, length, &log, bytes, 12).code == BBL_OK);
-    CHECK(tellings >= 4 && tellings < 64);
+    CHECK(tellings >= 8 && tellings < 64);
     for (i = 0; i < tellings; i++) {
-        if (!told[i].flush) {
+        if (told[i].hook != FLUSH) {
             CHECK(told[i].length > 0 && told[i].address >= medium && told[i].address + told[i].length <= medium + length);
+        }
+        if (told[i].hook == PERSIST) {
             memcpy(before + (told[i].address - medium), told[i].address, told[i].length);
             puts++;
+        } else if (told[i].hook == WRITTEN) {
+            writings++;
+            CHECK(told[i].length <= 32);
+        } else {
+            /* each put since the last flush is in one of the runs that were told since, and behind it */
+            for (k = since; k < i; k++) {
+                unsigned w = k;
+                while (w < i && !(told[w].hook == WRITTEN && told[w].address <= told[k].address &&
+                                  told[k].address + told[k].length <= told[w].address + told[w].length)) {
+                    w++;
+                }
+                CHECK(w < i);
+            }
+            since = i + 1;
         }
     }
-    CHECK(unchanged()); /* what was told makes of the old medium the new one */
-    CHECK(puts == persistings && puts >= (wraps ? 4u : 3u));
-    CHECK(told[tellings - 1].flush);
-    CHECK(!told[tellings - 2].flush && told[tellings - 2].address == medium && told[tellings - 2].length == 8);
-    CHECK(told[tellings - 3].flush);
+    CHECK(since == tellings);
+    CHECK(unchanged()); /* the puts make of the old medium the new one */
+    CHECK(writings == runs + 2 && puts > writings); /* the bytes, the header, the selector */
+    CHECK(is_told(tellings - 1, FLUSH, NULL, 0) && is_told(tellings - 2, WRITTEN, medium, 8));
+    CHECK(is_told(tellings - 3, PERSIST, medium, 8) && is_told(tellings - 4, FLUSH, NULL, 0));
     CHECK(same(bbl_open(medium, length).handle, log));
 }
 
 static void all_hooks(void)
 {
     bbl_handle log = set_up(72 + 32);
-    hooks(72 + 32, log, 0);
+    hooks(72 + 32, log, 1);
     log = set_up(72 + 32);
     CHECK(bbl_append(medium, 72 + 32, &log, (const uint8_t *)"0123456789abcdef0123456789", 26).code == BBL_OK);
     CHECK(bbl_advance(medium, 72 + 32, &log, 26).code == BBL_OK);
-    hooks(72 + 32, log, 1);
+    hooks(72 + 32, log, 2);
 }
 
 static void addresses(void)
@@ -385,7 +410,27 @@ static void steps(void)
     CHECK(bbl_step(medium, 100, plan, BBL_PLAN_WORDS, NULL, 0, 0).code == BBL_STEP_REFUSED);
     CHECK(bbl_step(medium, 80, plan, BBL_PLAN_WORDS, bytes, 20, 0).code == BBL_STEP_REFUSED);
     CHECK(bbl_step(NULL, 0, plan, BBL_PLAN_WORDS, bytes, 20, 0).code == BBL_STEP_REFUSED);
+    CHECK(bbl_make_step(medium, 100, plan, BBL_PLAN_WORDS, bytes, 20, UINT64_MAX).code == BBL_STEP_REFUSED);
+    CHECK(bbl_make_step(medium, 100, plan, BBL_PLAN_WORDS, bytes, 20, BBL_PLAN_WORDS / 6).code == BBL_STEP_REFUSED);
+    CHECK(bbl_make_step(medium, 100, NULL, 0, bytes, 20, 0).code == BBL_STEP_REFUSED);
+    CHECK(bbl_make_step(medium, 100, plan, 5, bytes, 20, 0).code == BBL_STEP_REFUSED);
+    CHECK(bbl_make_step(NULL, 0, plan, BBL_PLAN_WORDS, bytes, 20, 1).code == BBL_STEP_REFUSED);
+    CHECK(bbl_put_bytes(medium, 100, 81, bytes, 20, 0, 20) == 0 && bbl_put_bytes(medium, 100, 90, bytes, 20, 0, 21) == 0);
+    CHECK(bbl_put_bytes(medium, 100, 90, bytes, 20, 5, 4) == 0 && bbl_put_bytes(medium, 100, 90, bytes, 20, 5, 5) == 0);
+    CHECK(bbl_put_bytes(medium, 100, UINT64_MAX, bytes, 20, 5, 6) == 0 && bbl_put_bytes(NULL, 0, 0, bytes, 20, 5, 6) == 0);
+    CHECK(bbl_put_bytes(medium, 100, 0, NULL, 0, 0, 1) == 0 && bbl_put_bytes(medium, 100, 0, bytes, 20, 19, UINT64_MAX) == 0);
+    CHECK(bbl_put_number(medium, 100, 93, 5) == 0 && bbl_put_number(medium, 100, 100, 5) == 0 && bbl_put_number(medium, 7, 0, 5) == 0);
+    CHECK(bbl_put_number(medium, 100, UINT64_MAX, 5) == 0 && bbl_put_number(medium, 100, UINT64_MAX - 6, 5) == 0 && bbl_put_number(NULL, 0, 0, 5) == 0);
     CHECK(unchanged());
+    /* the handle in its four numbers */
+    {
+        uint64_t apart[BBL_PLAN_WORDS];
+        const bbl_reply of = bbl_plan_append_of(medium, 100, log.live, log.head, log.tail, log.size, 20, apart, BBL_PLAN_WORDS);
+        CHECK(of.code == BBL_OK && of.number == reply.number && of.steps == reply.steps && same(of.handle, reply.handle));
+        ANSWERS(bbl_plan_append_of(medium, 100, 2, log.head, log.tail, log.size, 20, apart, BBL_PLAN_WORDS), BBL_BAD_HANDLE, 0, 0);
+        ANSWERS(bbl_plan_append_of(medium, 100, 0, 0, 0, 27, 20, apart, BBL_PLAN_WORDS), BBL_BAD_HANDLE, 0, 0);
+        ANSWERS(bbl_plan_append_of(medium, 100, 0, 7, 10, 28, 25, apart, BBL_PLAN_WORDS), BBL_NO_ROOM, 24, 0);
+    }
     /* opened after each step: the log before, until the selector is written, and then the log after */
     for (i = 0; i < reply.steps; i++) {
         bbl_reply now;
@@ -402,6 +447,24 @@ static void steps(void)
     memset(plan, 0xff, sizeof plan);
     remember();
     ANSWERS(bbl_carry_out(medium, 100, plan, BBL_PLAN_WORDS, NULL, 0, reply), BBL_BROKEN_PLAN, 0, 0);
+    CHECK(unchanged());
+    /* the step that was refused is named: one that is no step, a number that does not fit, and one that is not there any more */
+    for (i = 0; i < 3; i++) {
+        reply = bbl_plan_setup(medium, 100, plan, BBL_PLAN_WORDS);
+        CHECK(reply.steps == 4);
+        plan[12] = i == 0 ? 4 : plan[12];
+        plan[13] = i == 1 ? 93 : plan[13];
+        ANSWERS(bbl_carry_out(medium, 100, plan, i == 2 ? 17 : BBL_PLAN_WORDS, NULL, 0, reply), BBL_BROKEN_PLAN, 2, 0);
+    }
+    /* a number, from its lowest byte, and nothing beside it */
+    memset(medium, 0xee, MOST);
+    remember();
+    CHECK(bbl_put_number(medium, 100, 92, UINT64_C(0x0807060504030201)) == 8);
+    memcpy(before + 92, "\1\2\3\4\5\6\7\10", 8);
+    CHECK(unchanged());
+    /* bytes from one to another */
+    CHECK(bbl_put_bytes(medium, 100, 86, bytes, 20, 3, 9) == 6);
+    memcpy(before + 86, "345678", 6);
     CHECK(unchanged());
 }
 
@@ -422,19 +485,25 @@ static void any_plan(void)
     const uint8_t bytes[30] = {9, 9, 9};
     unsigned round, k, wrong = 0;
     for (round = 0; round < 20000; round++) {
-        bbl_stepped done;
+        bbl_stepped done, made;
+        uint64_t i;
         for (k = 0; k < BBL_PLAN_WORDS; k++) {
             const uint64_t x = random_number();
             plan[k] = k % 6 == 0 ? x % 5 : x % 3 == 0 ? x : x % 128;
         }
         memset(medium, 0xee, MOST);
         remember();
-        done = bbl_step(medium + 64, 100, plan, BBL_PLAN_WORDS, bytes, 30, random_number() % 9);
+        i = random_number() % 9;
+        done = bbl_step(medium + 64, 100, plan, BBL_PLAN_WORDS, bytes, 30, i);
         if (done.code == BBL_STEP_PUT) {
             wrong += done.at > 100 || done.length > 100 - done.at;
             memcpy(before + 64 + done.at, medium + 64 + done.at, (size_t)done.length);
         }
         wrong += !unchanged();
+        /* bbl_make_step answers and leaves the same */
+        memset(medium, 0xee, MOST);
+        made = bbl_make_step(medium + 64, 100, plan, BBL_PLAN_WORDS, bytes, 30, i);
+        wrong += made.code != done.code || made.at != done.at || made.length != done.length || !unchanged();
     }
     CHECK(wrong == 0);
 }

@@ -53,6 +53,9 @@ STEPPED(bbl_reply, plan_advance, (const uint8_t *m, size_t n, bbl_handle h, uint
 STEPPED(bbl_stepped, step,
         (uint8_t *m, size_t n, const uint64_t *p, size_t w, const uint8_t *b, size_t c, uint64_t i),
         (m, n, p, w, b, c, i))
+STEPPED(bbl_stepped, make_step,
+        (uint8_t *m, size_t n, const uint64_t *p, size_t w, const uint8_t *b, size_t c, uint64_t i),
+        (m, n, p, w, b, c, i))
 STEPPED(bbl_reply, read, (const uint8_t *m, size_t n, bbl_handle h, uint64_t p, uint8_t *o, size_t c), (m, n, h, p, o, c))
 STEPPED(bbl_reply, ask, (const uint8_t *m, size_t n, bbl_handle h), (m, n, h))
 
@@ -76,15 +79,75 @@ static void reads(void) {
     }
 }
 
+// A step both ways.
+static void both_steps(uint8_t *medium, size_t length, const uint64_t *plan, const uint8_t *bytes, size_t count) {
+    stepped_step(medium, length, plan, 6, bytes, count, 0);
+    stepped_make_step(medium, length, plan, 6, bytes, count, 0);
+}
+
 // A copy takes another way where the two buffers are near each other: the bytes of a step right before the place where they go,
 // and what is read right behind its place.
 static void near_buffers(void) {
     static uint8_t memory[256];
     for (size_t count = 0; count < 40; count++) {
         const uint64_t plan[] = {1, 0, 0, count, 0, 0};
-        stepped_step(memory + count, 80, plan, 6, memory, count, 0);
+        both_steps(memory + count, 80, plan, memory, count);
         stepped_read(memory, 72 + 60, (bbl_handle){0, 0, count, 60}, 0, memory + 72 + count, count);
         stepped_read(memory, 72 + 60, (bbl_handle){0, 60, 60 + count, 60}, 60, memory + 72 + count, count);
+    }
+    // the same of the part of a read that is behind the ring's end
+    for (size_t count = 2; count < 30; count++) {
+        stepped_read(memory, 72 + 60, (bbl_handle){0, 59, 59 + count, 60}, 59, memory + 72 + 30, count);
+    }
+}
+
+// Long records, to places of every remainder by 16: they are copied from the next multiple of 16 on. And the same of reads, whole and over the
+// ring's end, from low and from high positions.
+static void long_records(void) {
+    static uint8_t memory[2048], bytes[800];
+    for (uint64_t at = 0; at < 16; at++) {
+        for (size_t count = 505; count < 800; count += 49) {
+            const uint64_t plan[] = {1, at, 0, count, 0, 0}, high = (UINT64_C(1) << 40) / 900 * 900;
+            both_steps(memory, sizeof memory, plan, bytes, count);
+            stepped_read(memory, 72 + 900, (bbl_handle){0, at, at + count, 900}, at, bytes, count);
+            stepped_read(memory, 72 + 900, (bbl_handle){0, high - at, high - at + count, 900}, high - at, bytes, count);
+        }
+    }
+}
+
+// Where 256 bytes are copied at a time, the other way is for buffers that overlap. A caller must not lend such; the code copies them byte by byte
+// all the same, from the first on.
+static void overlapping(void) {
+    static uint8_t is[2048], should[2048];
+    for (size_t by = 1; by < 40; by += 15) {
+        for (size_t count = 250; count < 530; count += 67) {
+            const uint64_t plan[] = {1, 0, 0, count, 0, 0};
+            for (unsigned way = 0; way < 4; way++) {
+                // a read has one byte before the ring's end, and the others behind it
+                const size_t from = way < 2 ? 0 : 72, to = from + by + (way == 3);
+                for (size_t k = 0; k < sizeof is; k++) {
+                    is[k] = should[k] = (uint8_t)(k * 7 + k / 256);
+                }
+                if (way == 3) {
+                    should[72 + by] = should[72 + 599];
+                }
+                for (size_t k = 0; k < count - (way == 3); k++) {
+                    should[to + k] = should[from + k];
+                }
+                if (way == 0) {
+                    stepped_step(is + by, 1024, plan, 6, is, count, 0);
+                } else if (way == 1) {
+                    stepped_make_step(is + by, 1024, plan, 6, is, count, 0);
+                } else {
+                    const uint64_t head = way == 2 ? 0 : 599;
+                    stepped_read(is, 72 + 600, (bbl_handle){0, head, head + count, 600}, head, is + 72 + by, count);
+                }
+                if (memcmp(is, should, sizeof is) != 0) {
+                    fprintf(stderr, "coverage: %zu bytes by %zu, way %u: not byte by byte\n", count, by, way);
+                    exit(1);
+                }
+            }
+        }
     }
 }
 
@@ -126,7 +189,7 @@ static void usual_life(void) {
 int main(int count, char **words) {
     static const log_under_test stepped = {
         "archive",    stepped_open, stepped_plan_setup, stepped_plan_append, stepped_plan_advance,
-        stepped_step, stepped_read, stepped_ask,
+        stepped_step, stepped_read, stepped_ask,        stepped_make_step,
     };
     if (count != 3) {
         return 2;
@@ -143,6 +206,8 @@ int main(int count, char **words) {
     checksums();
     reads();
     near_buffers();
+    long_records();
+    overlapping();
     short_media();
     usual_life();
     // until nothing new was found for some time

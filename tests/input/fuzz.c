@@ -223,10 +223,7 @@ static bool same_bytes(fuzz *f, const char *what, const uint8_t *is, const uint8
     return true;
 }
 
-// One step: as the model has it, on the medium and in its answer.
-static bool judge_step(fuzz *f, uint64_t i) {
-    bbl_stepped is = f->log->step(in.medium, in.length, in.plan, in.words, in.bytes, in.count, i);
-    bbl_stepped should = model_step(in.was, in.length, in.plan, in.words, in.bytes, in.count, i);
+static bool same_step(fuzz *f, uint64_t i, bbl_stepped is, bbl_stepped should) {
     if (memcmp(&is, &should, sizeof is) != 0) {
         return wrong(f, "step %" PRIu64 " answers %" PRIu64 " (%" PRIu64 ", %" PRIu64 "), and should answer %" PRIu64 " (%" PRIu64
                         ", %" PRIu64 ")",
@@ -234,6 +231,22 @@ static bool judge_step(fuzz *f, uint64_t i) {
     }
     f->seen[STEP][is.code]++;
     return memcmp(in.medium, in.was, in.length) == 0 || same_bytes(f, "the medium", in.medium, in.was, in.length);
+}
+
+// One step: as the model has it, on the medium and in its answer; and once more as the header makes it, by bbl_put_bytes and bbl_put_number.
+static bool judge_step(fuzz *f, uint64_t i) {
+    static uint8_t before[ROOM];
+    memcpy(before, in.medium, in.length);
+    bbl_stepped is = f->log->step(in.medium, in.length, in.plan, in.words, in.bytes, in.count, i);
+    bbl_stepped should = model_step(in.was, in.length, in.plan, in.words, in.bytes, in.count, i);
+    if (!same_step(f, i, is, should)) {
+        return false;
+    }
+    if (f->log->make_step == NULL) {
+        return true;
+    }
+    memcpy(in.medium, before, in.length);
+    return same_step(f, i, f->log->make_step(in.medium, in.length, in.plan, in.words, in.bytes, in.count, i), should);
 }
 
 // A plan that was answered, carried out. `left` is what it should leave.

@@ -120,12 +120,12 @@ static void show_stores(void) {
 static bool show;
 
 // One step, traced: nothing is stored but by a put, and there as it should be.
-static bool traced_step(size_t length, uint64_t count, uint64_t i, counts *all, char text[TEXT]) {
+static bool traced_by(__typeof__(bbl_step) one_step, size_t length, uint64_t count, uint64_t i, counts *all, char text[TEXT]) {
     static uint8_t before[REGION];
     memcpy(before, medium, REGION);
     lock(true);
     trace(medium, NEVER);
-    bbl_stepped done = bbl_step(medium, length, given.plan, BBL_PLAN_WORDS, given.bytes, count, i);
+    bbl_stepped done = one_step(medium, length, given.plan, BBL_PLAN_WORDS, given.bytes, count, i);
     end_trace();
     lock(false);
     all->steps++;
@@ -159,6 +159,17 @@ static bool traced_step(size_t length, uint64_t count, uint64_t i, counts *all, 
     }
     text[said] = 0;
     return true;
+}
+
+// The same step twice: as the archive makes it and, on what was there before, as the header does, by bbl_put_bytes and bbl_put_number.
+static bool traced_step(size_t length, uint64_t count, uint64_t i, counts *all, char text[TEXT]) {
+    static uint8_t before[REGION];
+    memcpy(before, medium, REGION);
+    if (!traced_by(bbl_step, length, count, i, all, text)) {
+        return false;
+    }
+    memcpy(medium, before, REGION);
+    return traced_by(bbl_make_step, length, count, i, all, text);
 }
 
 // Plans an operation, with the medium read-only, and carries it out.
@@ -241,17 +252,27 @@ static bool many(char letter, unsigned count, char text[TEXT]) {
     return described(&all, text);
 }
 
-// Every length up to 70 bytes at every place of a piece, whole and over the ring's end.
+static bool traced_append(uint64_t ring, uint64_t tail, uint64_t length, counts *all, char text[TEXT]) {
+    traced_operation o = {RING_AT + ring, {tail % 2, tail, tail, ring}, 'a', length};
+    put_background(medium, REGION);
+    forge(medium, ring, tail, tail, tail % 2);
+    return traced_run(&o, all, text);
+}
+
+// Every length up to 70 bytes at every place of a piece, whole and over the ring's end; and long ones, which are copied another way, at every
+// place of 16 bytes.
 static bool every_length(counts *all, char text[TEXT]) {
     for (uint64_t length = 0; length <= 70; length++) {
         for (uint64_t tail = 0; tail < 8; tail++) {
-            for (uint64_t ring = 72; ring <= 79; ring += 7) {
-                traced_operation o = {RING_AT + ring, {tail % 2, tail, tail, ring}, 'a', length};
-                put_background(medium, REGION);
-                forge(medium, ring, tail, tail, tail % 2);
-                if (!traced_run(&o, all, text)) {
-                    return false;
-                }
+            if (!traced_append(72, tail, length, all, text) || !traced_append(79, tail, length, all, text)) {
+                return false;
+            }
+        }
+    }
+    for (uint64_t length = 505; length <= 560; length += 5) {
+        for (uint64_t tail = 0; tail < 16; tail++) {
+            if (!traced_append(700, tail, length, all, text) || !traced_append(700, 650 + tail, length + 50, all, text)) {
+                return false;
             }
         }
     }
@@ -490,9 +511,9 @@ int main(int count, char **words) {
         return 2;
     }
     part("the tracer on known instructions", known_stores);
-    part("bbl_step, set-up", set_ups);
-    part("bbl_step, append", appends);
-    part("bbl_step, advance", advances);
+    part("steps both ways, set-up", set_ups);
+    part("steps both ways, append", appends);
+    part("steps both ways, advance", advances);
     part("functions that store nothing on the medium", quiet);
     part("control in Rattle: two operations in a row", two_in_rattle);
     part("control in Rattle: the selector by a generic copy", copy_in_rattle);

@@ -12,7 +12,8 @@ struct stepped { uint64_t code, at, length; };
 
 extern struct reply bbl_open(const uint8_t *medium, size_t length);
 extern struct reply bbl_plan_setup(const uint8_t *medium, size_t length, uint64_t *plan, size_t words);
-extern struct reply bbl_plan_append(const uint8_t *medium, size_t length, struct kept handle, uint64_t bytes, uint64_t *plan, size_t words);
+extern struct reply bbl_plan_append_of(const uint8_t *medium, size_t length, uint64_t live, uint64_t head, uint64_t tail, uint64_t size,
+                                       uint64_t bytes, uint64_t *plan, size_t words);
 extern struct reply bbl_plan_advance(const uint8_t *medium, size_t length, struct kept handle, uint64_t position, uint64_t *plan, size_t words);
 extern struct stepped bbl_step(uint8_t *medium, size_t length, const uint64_t *plan, size_t words, const uint8_t *bytes, size_t count, uint64_t i);
 
@@ -114,7 +115,7 @@ static int append(struct log *l, size_t n, int as)
     uint64_t plan[WORDS];
     uint64_t place = l->handle.tail % l->handle.size;
     int wraps = place + n > l->handle.size;
-    struct reply r = bbl_plan_append(l->medium, l->length, l->handle, n, plan, WORDS);
+    struct reply r = bbl_plan_append_of(l->medium, l->length, l->handle.live, l->handle.head, l->handle.tail, l->handle.size, n, plan, WORDS);
     if (r.code == NO_ROOM)
         return 0;
     if (r.code != OK)

@@ -1,17 +1,15 @@
 -- What planning answers, across the boundary: the reply is made from the answer and names the number of steps. Assumes nothing.
-use mathlib.Core.Path.{_≡_, refl, sym, ap, _∙_, subst}
-use mathlib.Core.Bool.{Bool, true, false, cond}
-use mathlib.Core.List.{List, []}
+use mathlib.Core.Path.{_≡_, refl, ap, _∙_}
+use mathlib.Core.Bool.{true, false}
+use mathlib.Core.List.{List}
 use Prim.Native.Nat.{ℕ, _≤_, _<_}
-use native.Mathlib.Omega.{arith}
 use borrow.Author.Tests.{le-leb, lt-leb}
-use Rattle.carrier.specs.Plan.{Holds}
 use Rattle.device.specs.Device.{Step}
 use Rattle.log.specs.declared.SetUp.{SetUp}
 use Rattle.log.specs.declared.Appended.{Appended}
 use Rattle.log.specs.declared.Advanced.{Advanced}
 use Rattle.operations.specs.Planning.{Planned}
-use Rattle.blackboxlog.specs.Replies.{known, handleOf, ifKnown, badHandle, setUpReply, appendedReply, advancedReply}
+use Rattle.blackboxlog.specs.Replies.{known, setUpReply, appendedReply, advancedReply}
 use Rattle.blackboxlog.specs.declared.Kept.{Kept}
 use Rattle.blackboxlog.specs.declared.Reply.{Reply}
 
@@ -52,7 +50,3 @@ unknown k l = lt-leb _ _ l
 
 pub is-known : (k : Kept) → k .live ≤ 1 → known k ≡ true
 is-known k l = le-leb _ _ l
-
-pub none-planned : (p b : List ℕ) → Planned p b [] 0 p
-unfolding Holds
-none-planned p b = record { steps = refl; holds = λ i h. absurd (omega arith); long = refl; rest = λ j g. refl }

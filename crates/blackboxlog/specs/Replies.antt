@@ -24,6 +24,9 @@ abbrev pub side : Bool → ℕ
 side false = 0
 side true = 1
 
+abbrev pub kept : ℕ → ℕ → ℕ → ℕ → Kept
+kept l h t z = record { live = l; head = h; tail = t; size = z }
+
 abbrev pub known : Kept → Bool
 known k = leb (k .live) 1
 
@@ -34,7 +37,7 @@ abbrev pub keptOf : Handle → Kept
 keptOf h = record { live = side (h .second); head = h .head; tail = h .tail; size = h .size }
 
 abbrev pub noHandle : Kept
-noHandle = record { live = 0; head = 0; tail = 0; size = 0 }
+noHandle = kept 0 0 0 0
 
 -- a code, two numbers, and no handle
 abbrev pub said : ℕ → ℕ → ℕ → Reply
@@ -100,6 +103,12 @@ abbrev pub stepReply : Done → Stepped
 stepReply (Done.Put a n) = record { code = 0; at = a; length = n }
 stepReply Done.Flush = record { code = 1; at = 0; length = 0 }
 stepReply Done.Refused = record { code = 2; at = 0; length = 0 }
+
+-- of a put: how many bytes were put
+abbrev pub bytesPut : Done → ℕ
+bytesPut (Done.Put a n) = n
+bytesPut Done.Flush = 0
+bytesPut Done.Refused = 0
 
 -- WHAT JOINS the contracts of the boundary to the log: a handle that was answered means the same when it is handed back; and what a read
 -- that is not refused leaves in its buffer is that part of the log's bytes

@@ -1,18 +1,17 @@
 // The boundary: what C and Rust link. Each function is a thin wrapper; none makes more than one write, so that the caller can flush between
 // two; none has a `requires`. include/blackboxlog.h says in words what each does.
 ghost use mathlib.Core.Path.{_≡_};
-ghost use mathlib.Core.Bool.{cond};
 ghost use mathlib.Core.List.{List, []};
-ghost use Prim.Native.Nat.{ℕ, _≤_};
+ghost use Prim.Native.Nat.{ℕ};
 ghost use lib.ListN.{length};
-ghost use lib.Dec.{leb};
 ghost use Rattle.crc64.specs.Crc64.{crcOf};
-ghost use Rattle.carrier.specs.Plan.{stepIn, carried, leaves};
+ghost use Rattle.device.specs.Word.{le};
+ghost use Rattle.carrier.specs.Plan.{bytesAt, partAt, stepIn, carried, leaves};
 ghost use Rattle.log.specs.Log.{append, advance};
 ghost use Rattle.log.specs.Opening.{openOf};
 ghost use Rattle.log.specs.Operations.{planOf, appendOf, advanceOf, readOf, readInto, askOf, setUpOf, setUpPlan};
 ghost use Rattle.operations.specs.Planning.{planWords, ifRoom, Planned};
-ghost use Rattle.blackboxlog.specs.Replies.{side, said, planSaid, done, handleOf, ifKnown, badHandle, openedReply, setUpReply, appendedReply, advancedReply, gotReply, numbersReply, stepReply, Boundary};
+ghost use Rattle.blackboxlog.specs.Replies.{side, said, planSaid, done, kept, handleOf, ifKnown, badHandle, openedReply, setUpReply, appendedReply, advancedReply, gotReply, numbersReply, stepReply, bytesPut, Boundary};
 use carrier::Done;
 use log::Advanced;
 use log::Appended;
@@ -262,6 +261,17 @@ fn step_reply(o: Done) -> Stepped
     }
 }
 
+// How many bytes were put.
+fn bytes_put(o: Done) -> u64
+    ensures { λ r. ⌜ r ≡ bytesPut o ⌝ }
+{
+    match o {
+        Done::Put { at: _, len } => len,
+        Done::Flush => 0,
+        Done::Refused => 0,
+    }
+}
+
 // The checksum of bytes.
 #[no_mangle]
 pub extern "C" fn bbl_crc64(bytes: &[u8]) -> u64
@@ -288,16 +298,26 @@ pub extern "C" fn bbl_plan_setup(medium: &[u8], plan: &mut [u64]) -> Reply
     set_up_reply(answer, p.steps)
 }
 
-// A plan to append `length` bytes.
+// A plan to append `length` bytes. The handle comes as its four numbers: handed over as a struct it would be copied in pieces of 16 bytes that
+// were written in pieces of 8, for which a processor waits, and the next append with it.
 #[no_mangle]
-pub extern "C" fn bbl_plan_append(
+pub extern "C" fn bbl_plan_append_of(
     medium: &[u8],
-    handle: Kept,
+    live: u64,
+    head: u64,
+    tail: u64,
+    size: u64,
     length: u64,
     plan: &mut [u64],
 ) -> Reply
-    ensures { λ r. ⌜ ((b : List ℕ) → lib.ListN.length b ≡ length → (r ≡ ifKnown handle (appendedReply (ifRoom (now (plan .entry)) (Appended.ShortPlan planWords) (appendOf (handleOf handle) b (lib.ListN.length (now (medium .entry))))) (r .steps)) badHandle) × Planned (now (plan .entry)) b (ifKnown handle (ifRoom (now (plan .entry)) [] (planOf (handleOf handle) (append b) (now (medium .entry)))) []) (r .steps) (now (plan .exit))) ⌝ }
+    ensures { λ r. ⌜ ((b : List ℕ) → lib.ListN.length b ≡ length → (r ≡ ifKnown (kept live head tail size) (appendedReply (ifRoom (now (plan .entry)) (Appended.ShortPlan planWords) (appendOf (handleOf (kept live head tail size)) b (lib.ListN.length (now (medium .entry))))) (r .steps)) badHandle) × Planned (now (plan .entry)) b (ifKnown (kept live head tail size) (ifRoom (now (plan .entry)) [] (planOf (handleOf (kept live head tail size)) (append b) (now (medium .entry)))) []) (r .steps) (now (plan .exit))) ⌝ }
 {
+    let handle = Kept {
+        live: live,
+        head: head,
+        tail: tail,
+        size: size,
+    };
     if 1 < handle.live {
         return said(11, 0, 0);
     }
@@ -334,6 +354,23 @@ pub extern "C" fn bbl_step(medium: &mut [u8], plan: &[u64], bytes: &[u8], i: u64
     ensures { λ r. ⌜ (r ≡ stepReply (carried (now (medium .entry)) (stepIn (now (plan .entry)) (now (bytes .entry)) i))) × (now (medium .exit) ≡ leaves (now (medium .entry)) (stepIn (now (plan .entry)) (now (bytes .entry)) i)) ⌝ }
 {
     step_reply(carrier::step(medium, plan, bytes, i as usize))
+}
+
+// Puts the bytes from a to b at a place: what `bbl_step` does where the step's kind is 1. How many bytes were put: none if they are not there or do
+// not fit.
+#[no_mangle]
+pub extern "C" fn bbl_put_bytes(medium: &mut [u8], at: u64, bytes: &[u8], a: u64, b: u64) -> u64
+    ensures { λ r. ⌜ (r ≡ bytesPut (carried (now (medium .entry)) (partAt at a b (now (bytes .entry))))) × (now (medium .exit) ≡ leaves (now (medium .entry)) (partAt at a b (now (bytes .entry)))) ⌝ }
+{
+    bytes_put(carrier::put_part(medium, at, bytes, a, b))
+}
+
+// Puts a number: what `bbl_step` does where the step's kind is 2. How many bytes were put: eight, or none if they do not fit.
+#[no_mangle]
+pub extern "C" fn bbl_put_number(medium: &mut [u8], at: u64, x: u64) -> u64
+    ensures { λ r. ⌜ (r ≡ bytesPut (carried (now (medium .entry)) (bytesAt at (le x)))) × (now (medium .exit) ≡ leaves (now (medium .entry)) (bytesAt at (le x))) ⌝ }
+{
+    bytes_put(carrier::put_word(medium, at, x))
 }
 
 // The bytes from a position on, as many as `out` has.

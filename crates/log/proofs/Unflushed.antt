@@ -56,25 +56,29 @@ pending-two =
     ∷ (dataWrites (append (7 ∷ [])) (moved (append []) (fresh 74))
     ++ headerWrites (write answered-one (selectorWrite true)) (moved (append (7 ∷ [])) (moved (append []) (fresh 74))))
 
--- the checksum's piece of that header
-unfoldable pub checksum : Write
-checksum = record { at = 8; bytes = le (crcOf (content 0 1 2)) }
+-- the checksum's piece of that header, which stands at `at`
+unfoldable pub checksum : ℕ → Write
+checksum at = record { at = at; bytes = le (crcOf (content 0 1 2)) }
 
 pub record NoFlushAfter : Type 0 where
-  pub left : Left (after (still answered-one) (map put pending-two)) (write answered-one checksum)
-  pub opens : Damaged false (write answered-one checksum)
+  pub left : Left (after (still answered-one) (map put pending-two)) (write answered-one (checksum 8))
+  pub opens : Damaged false (write answered-one (checksum 8))
 
-checksum-piece : InPiece checksum
+first-piece : InPiece (checksum 8)
 unfolding checksum low
-checksum-piece = omega arith
+first-piece = omega arith
+
+second-piece : InPiece (checksum 40)
+unfolding checksum low
+second-piece = omega arith
 
 pub no-flush-after : NoFlushAfter
 unfolding answered-one pending-two checksum fresh-medium after step dataWrites headerWrites unless standsAt sameBytes moved setUpPlan commit apply seen run header openOf checked judged wordAt low crcOf bits bitsOf number onto divide remainder generator
 no-flush-after =
     record {
       left =
-          one-arrives (after (still answered-one) (map put pending-two)) checksum
-          (List·Memᴰ.List·Memᴰ·tail (List·Memᴰ.List·Memᴰ·tail (List·Memᴰ.List·Memᴰ·head refl))) checksum-piece;
+          one-arrives (after (still answered-one) (map put pending-two)) (checksum 8)
+          (List·Memᴰ.List·Memᴰ·tail (List·Memᴰ.List·Memᴰ·tail (List·Memᴰ.List·Memᴰ·head refl))) first-piece;
       opens = (_, _, refl);
     }
 
@@ -121,24 +125,16 @@ then-pending =
     ∷ (dataWrites (append (7 ∷ [])) (fresh 74)
     ++ headerWrites (write set-up-answered (selectorWrite false)) (moved (append (7 ∷ [])) (fresh 74)))
 
--- the checksum's piece of that header
-unfoldable pub next-checksum : Write
-next-checksum = record { at = 40; bytes = le (crcOf (content 0 1 2)) }
-
 pub record SetUpNoFlushAfter : Type 0 where
-  pub left : Left (after (still set-up-answered) (map put then-pending)) (write set-up-answered next-checksum)
-  pub opens : Damaged true (write set-up-answered next-checksum)
-
-next-checksum-piece : InPiece next-checksum
-unfolding next-checksum low
-next-checksum-piece = omega arith
+  pub left : Left (after (still set-up-answered) (map put then-pending)) (write set-up-answered (checksum 40))
+  pub opens : Damaged true (write set-up-answered (checksum 40))
 
 pub set-up-no-flush-after : SetUpNoFlushAfter
-unfolding two-headers earlier live set-up-answered then-pending next-checksum after step dataWrites headerWrites unless standsAt sameBytes moved run header openOf checked judged wordAt low crcOf bits bitsOf number onto divide remainder generator
+unfolding two-headers earlier live set-up-answered then-pending checksum after step dataWrites headerWrites unless standsAt sameBytes moved run header openOf checked judged wordAt low crcOf bits bitsOf number onto divide remainder generator
 set-up-no-flush-after =
     record {
       left =
-          one-arrives (after (still set-up-answered) (map put then-pending)) next-checksum
-          (List·Memᴰ.List·Memᴰ·tail (List·Memᴰ.List·Memᴰ·tail (List·Memᴰ.List·Memᴰ·head refl))) next-checksum-piece;
+          one-arrives (after (still set-up-answered) (map put then-pending)) (checksum 40)
+          (List·Memᴰ.List·Memᴰ·tail (List·Memᴰ.List·Memᴰ·tail (List·Memᴰ.List·Memᴰ·head refl))) second-piece;
       opens = (_, _, refl);
     }

@@ -30,6 +30,17 @@ pub mod step {
     pub const REFUSED: u64 = 2;
 }
 
+/// A step of a plan is six numbers, of which the first is its kind.
+pub const STEP_WORDS: usize = 6;
+
+/// The kinds of steps that the crate knows. The second number says where bytes or a number are put; then come the first of the bytes and the one
+/// behind the last; or the number.
+pub mod kind {
+    pub const FLUSH: u64 = 0;
+    pub const BYTES: u64 = 1;
+    pub const NUMBER: u64 = 2;
+}
+
 #[repr(C)]
 #[derive(Clone, Copy, Debug, PartialEq, Eq)]
 pub struct Handle {
@@ -62,10 +73,13 @@ extern "C" {
     pub fn bbl_crc64(bytes: *const u8, length: usize) -> u64;
     pub fn bbl_open(medium: *const u8, medium_length: usize) -> Reply;
     pub fn bbl_plan_setup(medium: *const u8, medium_length: usize, plan: *mut u64, words: usize) -> Reply;
-    pub fn bbl_plan_append(
+    pub fn bbl_plan_append_of(
         medium: *const u8,
         medium_length: usize,
-        handle: Handle,
+        live: u64,
+        head: u64,
+        tail: u64,
+        size: u64,
         length: u64,
         plan: *mut u64,
         words: usize,
@@ -87,6 +101,16 @@ extern "C" {
         length: usize,
         i: u64,
     ) -> Stepped;
+    pub fn bbl_put_bytes(
+        medium: *mut u8,
+        medium_length: usize,
+        at: u64,
+        bytes: *const u8,
+        length: usize,
+        a: u64,
+        b: u64,
+    ) -> u64;
+    pub fn bbl_put_number(medium: *mut u8, medium_length: usize, at: u64, number: u64) -> u64;
     pub fn bbl_read(
         medium: *const u8,
         medium_length: usize,

@@ -9,27 +9,21 @@ use Rattle.blackboxlog.proofs.numbers_reply.Reads as numbers-reply-read
 use Rattle.blackboxlog.proofs.said.Reads as said-reads
 use Rattle.operations.proofs.get_head_and_tail.Reads as get-head-and-tail-reads
 
--- src/lib.rt:333:9
 said-requires : tie.Need-said-requires
 said-requires c κs = search needs
 
--- src/lib.rt:333:9
 returns : tie.Need-returns
 returns c = rw (unknown (c .before .before .before .before .args .handle) (c .before .if1 .taken)) (c .said .ensures)
 
--- src/lib.rt:335:49
 handle-of-requires : tie.Need-handle-of-requires
 handle-of-requires c κs = search needs
 
--- src/lib.rt:335:19
 get-head-and-tail-requires : tie.Need-get-head-and-tail-requires
 get-head-and-tail-requires c κs = search needs
 
--- src/lib.rt:335:5
 numbers-reply-requires : tie.Need-numbers-reply-requires
 numbers-reply-requires c κs = search needs
 
--- src/lib.rt:328:1
 returns-2 : tie.Need-returns-2
 returns-2 c =
     rw (is-known (c .before .before .before .before .before .before .args .handle) (c .before .before .before .if1 .left), ← c .before .before .handle-of .ensures, ← c .before .get-head-and-tail .ensures) (c .numbers-reply .ensures)

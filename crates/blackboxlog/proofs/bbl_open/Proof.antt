@@ -8,15 +8,12 @@ use Rattle.blackboxlog.proofs.bbl_open.Lts as lts
 use Rattle.blackboxlog.proofs.opened_reply.Reads as opened-reply-reads
 use Rattle.operations.proofs.start.Reads as start-reads
 
--- src/lib.rt:259:18
 start-requires : tie.Need-start-requires
 start-requires c κs = search needs
 
--- src/lib.rt:259:5
 opened-reply-requires : tie.Need-opened-reply-requires
 opened-reply-requires c κs = search needs
 
--- src/lib.rt:255:1
 returns : tie.Need-returns
 returns c = c .opened-reply .ensures ∙ ap openedReply (c .before .start .ensures)
 

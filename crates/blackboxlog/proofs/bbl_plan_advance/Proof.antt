@@ -3,7 +3,8 @@ use borrow.Author.Needs.{needs}
 use mathlib.Core.Path.{refl}
 use native.Mathlib.Omega.{arith}
 use Rattle.blackboxlog.specs.Replies.{advancedReply}
-use Rattle.blackboxlog.proofs.Replied.{unknown, is-known, none-planned, replied, replied-plan, advance-steps}
+use Rattle.operations.proofs.Answers.{none-planned}
+use Rattle.blackboxlog.proofs.Replied.{unknown, is-known, replied, replied-plan, advance-steps}
 use Rattle.blackboxlog.proofs.bbl_plan_advance.Statement.{statement}
 use Rattle.blackboxlog.proofs.bbl_plan_advance.Tie as tie
 

@@ -8,19 +8,15 @@ use Rattle.blackboxlog.proofs.bbl_plan_setup.Lts as lts
 use Rattle.blackboxlog.proofs.set_up_reply.Reads as set-up-reply-reads
 use Rattle.operations.proofs.plan_setup.Reads as plan-setup-reads
 
--- src/lib.rt:267:9
 plan-setup-requires : tie.Need-plan-setup-requires
 plan-setup-requires c κs = search needs
 
--- src/lib.rt:269:5
 set-up-reply-requires : tie.Need-set-up-reply-requires
 set-up-reply-requires c κs = search needs
 
--- src/lib.rt:263:1
 same-length : tie.Need-same-length
 same-length c = search needs
 
--- src/lib.rt:263:1
 returns : tie.Need-returns
 returns c =
     let p = c .before .before .before .plan-setup .ensures in

@@ -10,31 +10,24 @@ use Rattle.blackboxlog.proofs.handle_of.Reads as handle-of-reads
 use Rattle.blackboxlog.proofs.said.Reads as said-reads
 use Rattle.operations.proofs.read.Reads as read-reads
 
--- src/lib.rt:322:9
 said-requires : tie.Need-said-requires
 said-requires c κs = search needs
 
--- src/lib.rt:322:9
 returns : tie.Need-returns
 returns c = rw (unknown (c .before .before .before .before .before .args .handle) (c .before .if1 .taken)) (c .said .ensures, refl)
 
--- src/lib.rt:324:40
 handle-of-requires : tie.Need-handle-of-requires
 handle-of-requires c κs = search needs
 
--- src/lib.rt:324:15
 read-requires : tie.Need-read-requires
 read-requires c κs = search needs
 
--- src/lib.rt:324:5
 got-reply-requires : tie.Need-got-reply-requires
 got-reply-requires c κs = search needs
 
--- src/lib.rt:317:1
 same-length : tie.Need-same-length
 same-length c = search needs
 
--- src/lib.rt:317:1
 returns-2 : tie.Need-returns-2
 returns-2 c =
     let r = c .before .before .before .read .ensures in

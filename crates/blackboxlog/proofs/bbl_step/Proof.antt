@@ -8,19 +8,15 @@ use Rattle.blackboxlog.proofs.bbl_step.Lts as lts
 use Rattle.blackboxlog.proofs.step_reply.Reads as step-reply-reads
 use Rattle.carrier.proofs.step.Reads as step-reads
 
--- src/lib.rt:313:16
 step-requires : tie.Need-step-requires
 step-requires c κs = search needs
 
--- src/lib.rt:313:5
 step-reply-requires : tie.Need-step-reply-requires
 step-reply-requires c κs = search needs
 
--- src/lib.rt:309:1
 same-length : tie.Need-same-length
 same-length c = search needs
 
--- src/lib.rt:309:1
 returns : tie.Need-returns
 returns c = ((c .step-reply .ensures ∙ ap stepReply (c .before .before .before .step .ensures .0)), c .before .before .before .step .ensures .1)
 

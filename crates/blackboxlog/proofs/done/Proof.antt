@@ -5,11 +5,9 @@ use Rattle.blackboxlog.proofs.done.Reads as reads
 use Rattle.blackboxlog.proofs.done.Lts as lts
 use Rattle.blackboxlog.proofs.side.Reads as side-reads
 
--- src/lib.rt:75:15
 side-requires : tie.Need-side-requires
 side-requires c κs = search needs
 
--- src/lib.rt:71:1
 returns : tie.Need-returns
 returns c = rw (c .side .ensures)
 

@@ -5,51 +5,39 @@ use Rattle.blackboxlog.proofs.got_reply.Reads as reads
 use Rattle.blackboxlog.proofs.got_reply.Lts as lts
 use Rattle.blackboxlog.proofs.said.Reads as said-reads
 
--- src/lib.rt:190:23
 enum-told : tie.Need-enum-told
 enum-told c = search needs
 
--- src/lib.rt:190:23
 said-requires : tie.Need-said-requires
 said-requires c κs = search needs
 
--- src/lib.rt:191:27
 enum-known-o : tie.Need-enum-known-o
 enum-known-o c = search needs
 
--- src/lib.rt:191:37
 said-requires-2 : tie.Need-said-requires-2
 said-requires-2 c κs = search needs
 
--- src/lib.rt:192:27
 enum-known-o-2 : tie.Need-enum-known-o-2
 enum-known-o-2 c = search needs
 
--- src/lib.rt:192:37
 said-requires-3 : tie.Need-said-requires-3
 said-requires-3 c κs = search needs
 
--- src/lib.rt:193:27
 enum-told-2 : tie.Need-enum-told-2
 enum-told-2 c = search needs
 
--- src/lib.rt:193:27
 said-requires-4 : tie.Need-said-requires-4
 said-requires-4 c κs = search needs
 
--- src/lib.rt:186:1
 returns : tie.Need-returns
 returns c = rw (c .before .enum-told .given .1) (c .said .ensures)
 
--- src/lib.rt:186:1
 returns-2 : tie.Need-returns-2
 returns-2 c = rw (c .before .before .o .given .1) (c .said2 .ensures)
 
--- src/lib.rt:186:1
 returns-3 : tie.Need-returns-3
 returns-3 c = rw (c .before .before .o2 .given .1) (c .said3 .ensures)
 
--- src/lib.rt:186:1
 returns-4 : tie.Need-returns-4
 returns-4 c = rw (c .before .enum-told2 .given .1) (c .said4 .ensures)
 

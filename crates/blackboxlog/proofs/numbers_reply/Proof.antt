@@ -5,23 +5,18 @@ use Rattle.blackboxlog.proofs.numbers_reply.Reads as reads
 use Rattle.blackboxlog.proofs.numbers_reply.Lts as lts
 use Rattle.blackboxlog.proofs.said.Reads as said-reads
 
--- src/lib.rt:202:13
 enum-known-o : tie.Need-enum-known-o
 enum-known-o c = search needs
 
--- src/lib.rt:220:31
 enum-told : tie.Need-enum-told
 enum-told c = search needs
 
--- src/lib.rt:220:31
 said-requires : tie.Need-said-requires
 said-requires c κs = search needs
 
--- src/lib.rt:197:1
 returns : tie.Need-returns
 returns c = rw (c .before .o .given .1)
 
--- src/lib.rt:197:1
 returns-2 : tie.Need-returns-2
 returns-2 c = rw (c .before .enum-told .given .1) (c .said .ensures)
 

@@ -7,95 +7,72 @@ use Rattle.blackboxlog.proofs.done.Reads as done-reads
 use Rattle.blackboxlog.proofs.said.Reads as said-reads
 use Rattle.blackboxlog.proofs.side.Reads as side-reads
 
--- src/lib.rt:110:23
 enum-known-o : tie.Need-enum-known-o
 enum-known-o c = search needs
 
--- src/lib.rt:110:35
 done-requires : tie.Need-done-requires
 done-requires c κs = search needs
 
--- src/lib.rt:111:28
 enum-known-o-2 : tie.Need-enum-known-o-2
 enum-known-o-2 c = search needs
 
--- src/lib.rt:111:42
 said-requires : tie.Need-said-requires
 said-requires c κs = search needs
 
--- src/lib.rt:112:31
 enum-known-o-3 : tie.Need-enum-known-o-3
 enum-known-o-3 c = search needs
 
--- src/lib.rt:112:42
 said-requires-2 : tie.Need-said-requires-2
 said-requires-2 c κs = search needs
 
--- src/lib.rt:114:13
 enum-known-o-4 : tie.Need-enum-known-o-4
 enum-known-o-4 c = search needs
 
--- src/lib.rt:119:23
 side-requires : tie.Need-side-requires
 side-requires c κs = search needs
 
--- src/lib.rt:132:29
 enum-told : tie.Need-enum-told
 enum-told c = search needs
 
--- src/lib.rt:132:29
 said-requires-3 : tie.Need-said-requires-3
 said-requires-3 c κs = search needs
 
--- src/lib.rt:133:32
 enum-known-o-5 : tie.Need-enum-known-o-5
 enum-known-o-5 c = search needs
 
--- src/lib.rt:133:48
 said-requires-4 : tie.Need-said-requires-4
 said-requires-4 c κs = search needs
 
--- src/lib.rt:134:27
 enum-known-o-6 : tie.Need-enum-known-o-6
 enum-known-o-6 c = search needs
 
--- src/lib.rt:149:29
 enum-known-o-7 : tie.Need-enum-known-o-7
 enum-known-o-7 c = search needs
 
--- src/lib.rt:149:45
 said-requires-5 : tie.Need-said-requires-5
 said-requires-5 c κs = search needs
 
--- src/lib.rt:106:1
 returns : tie.Need-returns
 returns c = rw (c .before .before .o .given .1) (c .done .ensures)
 
--- src/lib.rt:106:1
 returns-2 : tie.Need-returns-2
 returns-2 c = rw (c .before .before .o2 .given .1) (c .said .ensures)
 
--- src/lib.rt:106:1
 returns-3 : tie.Need-returns-3
 returns-3 c = rw (c .before .before .o3 .given .1) (c .said2 .ensures)
 
--- src/lib.rt:106:1
 returns-4 : tie.Need-returns-4
 returns-4 c = rw (c .before .before .o4 .given .1, c .side .ensures)
 
--- src/lib.rt:106:1
 returns-5 : tie.Need-returns-5
 returns-5 c = rw (c .before .enum-told .given .1) (c .said3 .ensures)
 
--- src/lib.rt:106:1
 returns-6 : tie.Need-returns-6
 returns-6 c = rw (c .before .before .o5 .given .1) (c .said4 .ensures)
 
--- src/lib.rt:106:1
 returns-7 : tie.Need-returns-7
 returns-7 c = rw (c .before .o6 .given .1)
 
--- src/lib.rt:106:1
 returns-8 : tie.Need-returns-8
 returns-8 c = rw (c .before .before .o7 .given .1) (c .said5 .ensures)
 

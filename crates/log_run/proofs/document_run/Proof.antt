@@ -15,123 +15,93 @@ use Rattle.log_run.proofs.text.Reads as text-reads
 use Rattle.operations.proofs.setup.Reads as setup-reads
 use Rattle.operations.proofs.start.Reads as start-reads
 
--- src/main.rt:252:10
 slice-aggregate-text : tie.Need-slice-aggregate-text
 slice-aggregate-text c = search needs
 
--- src/main.rt:252:5
 text-requires : tie.Need-text-requires
 text-requires c κs = search needs
 
--- src/main.rt:253:21
 setup-requires : tie.Need-setup-requires
 setup-requires c κs = search needs
 
--- src/main.rt:253:9
 set-up-requires : tie.Need-set-up-requires
 set-up-requires c κs = search needs
 
--- src/main.rt:254:28
 slice-aggregate-append : tie.Need-slice-aggregate-append
 slice-aggregate-append c = search needs
 
--- src/main.rt:254:9
 append-requires : tie.Need-append-requires
 append-requires c κs = search needs
 
--- src/main.rt:255:28
 slice-aggregate-append-2 : tie.Need-slice-aggregate-append-2
 slice-aggregate-append-2 c = search needs
 
--- src/main.rt:255:9
 append-requires-2 : tie.Need-append-requires-2
 append-requires-2 c κs = search needs
 
--- src/main.rt:256:9
 advance-requires : tie.Need-advance-requires
 advance-requires c κs = search needs
 
--- src/main.rt:257:28
 slice-aggregate-append-3 : tie.Need-slice-aggregate-append-3
 slice-aggregate-append-3 c = search needs
 
--- src/main.rt:257:9
 append-requires-3 : tie.Need-append-requires-3
 append-requires-3 c κs = search needs
 
--- src/main.rt:259:20
 slice-aggregate-read : tie.Need-slice-aggregate-read
 slice-aggregate-read c = search needs
 
--- src/main.rt:259:5
 read-requires : tie.Need-read-requires
 read-requires c κs = search needs
 
--- src/main.rt:260:10
 slice-aggregate-text-2 : tie.Need-slice-aggregate-text-2
 slice-aggregate-text-2 c = search needs
 
--- src/main.rt:260:5
 text-requires-2 : tie.Need-text-requires-2
 text-requires-2 c κs = search needs
 
--- src/main.rt:262:14
 sub-text : tie.Need-sub-text
 sub-text c = search needs
 
--- src/main.rt:262:14
 part-text-start : tie.Need-part-text-start
 part-text-start c = search needs
 
--- src/main.rt:262:14
 part-text-end : tie.Need-part-text-end
 part-text-end c = search needs
 
--- src/main.rt:262:9
 text-requires-3 : tie.Need-text-requires-3
 text-requires-3 c κs = search needs
 
--- src/main.rt:263:14
 sub-text-2 : tie.Need-sub-text-2
 sub-text-2 c = search needs
 
--- src/main.rt:263:14
 part-text-start-2 : tie.Need-part-text-start-2
 part-text-start-2 c = search needs
 
--- src/main.rt:263:14
 part-text-end-2 : tie.Need-part-text-end-2
 part-text-end-2 c = search needs
 
--- src/main.rt:263:9
 text-requires-4 : tie.Need-text-requires-4
 text-requires-4 c κs = search needs
 
--- src/main.rt:265:5
 end-requires : tie.Need-end-requires
 end-requires c κs = search needs
 
--- src/main.rt:266:28
 slice-aggregate-append-4 : tie.Need-slice-aggregate-append-4
 slice-aggregate-append-4 c = search needs
 
--- src/main.rt:266:9
 append-requires-4 : tie.Need-append-requires-4
 append-requires-4 c κs = search needs
 
--- src/main.rt:267:5
 ask-requires : tie.Need-ask-requires
 ask-requires c κs = search needs
 
--- src/main.rt:268:12
 start-requires : tie.Need-start-requires
 start-requires c κs = search needs
 
--- src/main.rt:268:5
 opened-requires : tie.Need-opened-requires
 opened-requires c κs = search needs
 
--- src/main.rt:251:1
 same-length : tie.Need-same-length
 same-length c =
     c .before .before .before .before .before .before .before .append4 .kept .0
@@ -141,7 +111,6 @@ same-length c =
     ∙ c .before .before .before .before .before .before .before .before .before .before .before .before .before .before .before .before .before .before .before .before .before .before .before .before .before .before .before .before .before .before .before .before .before .before .append .kept .0
     ∙ c .before .before .before .before .before .before .before .before .before .before .before .before .before .before .before .before .before .before .before .before .before .before .before .before .before .before .before .before .before .before .before .before .before .before .before .before .before .before .before .before .setup .kept .0
 
--- src/main.rt:251:1
 returns : tie.Need-returns
 returns c = search needs
 

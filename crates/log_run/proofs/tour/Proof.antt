@@ -17,107 +17,81 @@ use Rattle.log_run.proofs.text.Reads as text-reads
 use Rattle.operations.proofs.setup.Reads as setup-reads
 use Rattle.operations.proofs.start.Reads as start-reads
 
--- src/main.rt:273:10
 slice-aggregate-text : tie.Need-slice-aggregate-text
 slice-aggregate-text c = search needs
 
--- src/main.rt:273:5
 text-requires : tie.Need-text-requires
 text-requires c κs = search needs
 
--- src/main.rt:274:5
 number-requires : tie.Need-number-requires
 number-requires c κs = search needs
 
--- src/main.rt:275:5
 end-requires : tie.Need-end-requires
 end-requires c κs = search needs
 
--- src/main.rt:276:21
 setup-requires : tie.Need-setup-requires
 setup-requires c κs = search needs
 
--- src/main.rt:276:9
 set-up-requires : tie.Need-set-up-requires
 set-up-requires c κs = search needs
 
--- src/main.rt:277:28
 slice-aggregate-append : tie.Need-slice-aggregate-append
 slice-aggregate-append c = search needs
 
--- src/main.rt:277:9
 append-requires : tie.Need-append-requires
 append-requires c κs = search needs
 
--- src/main.rt:278:28
 slice-aggregate-append-2 : tie.Need-slice-aggregate-append-2
 slice-aggregate-append-2 c = search needs
 
--- src/main.rt:278:9
 append-requires-2 : tie.Need-append-requires-2
 append-requires-2 c κs = search needs
 
--- src/main.rt:279:9
 advance-requires : tie.Need-advance-requires
 advance-requires c κs = search needs
 
--- src/main.rt:280:28
 slice-aggregate-append-3 : tie.Need-slice-aggregate-append-3
 slice-aggregate-append-3 c = search needs
 
--- src/main.rt:280:9
 append-requires-3 : tie.Need-append-requires-3
 append-requires-3 c κs = search needs
 
--- src/main.rt:281:9
 advance-requires-2 : tie.Need-advance-requires-2
 advance-requires-2 c κs = search needs
 
--- src/main.rt:282:28
 slice-aggregate-append-4 : tie.Need-slice-aggregate-append-4
 slice-aggregate-append-4 c = search needs
 
--- src/main.rt:282:9
 append-requires-4 : tie.Need-append-requires-4
 append-requires-4 c κs = search needs
 
--- src/main.rt:284:26
 slice-aggregate-read : tie.Need-slice-aggregate-read
 slice-aggregate-read c = search needs
 
--- src/main.rt:284:5
 read-requires : tie.Need-read-requires
 read-requires c κs = search needs
 
--- src/main.rt:285:23
 slice-aggregate-read-2 : tie.Need-slice-aggregate-read-2
 slice-aggregate-read-2 c = search needs
 
--- src/main.rt:285:5
 read-requires-2 : tie.Need-read-requires-2
 read-requires-2 c κs = search needs
 
--- src/main.rt:286:5
 ask-requires : tie.Need-ask-requires
 ask-requires c κs = search needs
 
--- src/main.rt:287:12
 start-requires : tie.Need-start-requires
 start-requires c κs = search needs
 
--- src/main.rt:287:5
 opened-requires : tie.Need-opened-requires
 opened-requires c κs = search needs
 
--- src/main.rt:288:12
 none-requires : tie.Need-none-requires
 none-requires c κs = search needs
 
--- src/main.rt:288:5
 ask-requires-2 : tie.Need-ask-requires-2
 ask-requires-2 c κs = search needs
 
--- src/main.rt:272:1
 same-length : tie.Need-same-length
 same-length c =
     c .before .before .before .before .before .before .before .before .before .before .before .before .before .before .before .before .before .before .append4 .kept .0
@@ -128,7 +102,6 @@ same-length c =
     ∙ c .before .before .before .before .before .before .before .before .before .before .before .before .before .before .before .before .before .before .before .before .before .before .before .before .before .before .before .before .before .before .before .before .before .before .before .before .before .before .before .before .before .append .kept .0
     ∙ c .before .before .before .before .before .before .before .before .before .before .before .before .before .before .before .before .before .before .before .before .before .before .before .before .before .before .before .before .before .before .before .before .before .before .before .before .before .before .before .before .before .before .before .before .before .before .before .setup .kept .0
 
--- src/main.rt:272:1
 returns : tie.Need-returns
 returns c = search needs
 
