@@ -1,8 +1,11 @@
-/* Blackboxlog as a user calls it: bbl_append over plan and step. Compiled twice: with empty hooks, and with FLUSHED, with those of the header's
- * example. */
+/* Blackboxlog as a user calls it: bbl_append over plan and step. Compiled three times: with empty hooks; with FLUSHED, those of the header's
+ * example; and with FENCED, which waits and writes nothing back, as libpmemlog does when its flushes are switched off. */
 #include "subject.h"
 
-#ifdef FLUSHED
+#if defined(FENCED)
+#define BBL_FLUSH() fence()
+#define SUBJECT ours_fenced
+#elif defined(FLUSHED)
 #define BBL_WRITTEN(address, length) write_back(address, length)
 #define BBL_FLUSH() fence()
 #define SUBJECT ours_flushed

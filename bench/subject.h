@@ -22,7 +22,7 @@ typedef struct {
     uint64_t (*crc)(const uint8_t *bytes, size_t n, size_t times);
 } subject;
 
-extern const subject ours_plain, ours_flushed, peer_plain, peer_flushed;
+extern const subject ours_plain, ours_flushed, ours_fenced, peer_plain, peer_flushed;
 
 /* how lines of the cache are written back and waited for, by what the processor has, and that in words; NULL if its lines have another length */
 enum { LINE = 64 };

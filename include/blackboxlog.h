@@ -23,7 +23,7 @@
  * refusal, comes after something was written.
  *
  * WHAT IS ASKED OF THE MEMORY.
- *   1. The medium begins at an address that is a multiple of 8.
+ *   1. The medium begins at an address that is a multiple of 8 (of 16, or of a line of the cache, takes less time).
  *   2. The memory takes what is written in aligned pieces of 8 bytes: a power cut leaves each piece as it was or as it was to be.
  *   3. After a flush, all that was written before it is there for good. Between two flushes anything may arrive in any order.
  *   4. Nobody else writes to the medium while an operation is under way.
@@ -36,19 +36,20 @@
  * cases, see there.
  *
  * PLAN AND STEP. An operation that writes has two parts. A bbl_plan_ function makes a plan: a few steps, each a put or a flush, and what the
- * operation answers once they are done. bbl_step makes one step. The caller carries out all steps in order, each once; at a flush it
- * flushes, before the next step. bbl_make_step is the same and takes less time. Nothing else keeps two writes apart: the compiler may merge stores within a function of the archive, and
- * each makes at most one write. How many steps a plan has is the library's affair. A plan is for the medium as it is: carry it out before
- * anything else is written there. If it can't be carried out to its end, the medium is as after a power cut, and the handle is worthless: see
- * that everything that was written is there for good, and open the medium again. Where the medium is a copy in memory of something else, as
- * of a file, and a write did not reach that, read it anew first.
+ * operation answers once they are done. bbl_step makes one step; bbl_make_step does the same in less time. The caller carries out all steps in
+ * order, each once; at a flush it flushes, before the next step. Nothing else keeps two writes apart: the compiler may merge stores within a
+ * function of the archive, and each makes at most one write. How many steps a plan has is the library's affair. A plan is for the medium as it
+ * is: carry it out before anything else is written there. Of its numbers a step has some that do not count, and these are left as they were. If
+ * it can't be carried out to its end, the medium is as after a power cut, and the handle is worthless: see that everything that was written is
+ * there for good, and open the medium again. Where the medium is a copy in memory of something else, as of a file, and a write did not reach
+ * that, read it anew first.
  *
  * IN ONE CALL: bbl_setup, bbl_append and bbl_advance make a plan and carry it out, with hooks for the memory. Define them before this header
  * is included; each does nothing by default, which is right for trying things out, and for memory on which all stores are there for good in
  * the program's order, as long as the archive is not inlined into its caller; elsewhere BBL_FLUSH is at least a fence.
  *
- *   BBL_WRITTEN(address, length)   after puts, and before the next flush: these bytes were written, and perhaps not all of them. Begin to
- *                                  write them back. Puts into one header are told at once.
+ *   BBL_WRITTEN(address, length)   after a put, or after some that are near each other, and before the next flush: all that they put is within
+ *                                  these bytes. Begin to write them back.
  *   BBL_FLUSH()                    at each flush: wait until all that was written is there for good.
  *   BBL_PERSIST(address, length)   the simple form, alone and instead of the two: after each put, write these bytes back and wait.
  *
@@ -63,7 +64,7 @@
 #include <stddef.h>
 #include <stdint.h>
 
-#define BBL_VERSION "0.1.0"
+#define BBL_VERSION "0.2.0"
 
 /* So many numbers are enough for every plan. */
 #define BBL_PLAN_WORDS 54
@@ -160,7 +161,7 @@ typedef struct {
 /* ---- the archive's functions
  *
  * A pointer comes with the number of its elements. It may be null where that number is 0. What is lent to be changed (the medium of
- * bbl_step, plan, out) must not overlap anything else that is lent to the same call. */
+ * bbl_step, bbl_put_bytes and bbl_put_number, plan, out) must not overlap anything else that is lent to the same call. */
 
 /* The checksum of `length` bytes: CRC-64/XZ, as in the headers of the log. That of "123456789" is 0x995dc9bbdf1939fa. */
 uint64_t bbl_crc64(const uint8_t *bytes, size_t length);
@@ -210,9 +211,9 @@ bbl_reply bbl_plan_advance(const uint8_t *medium, size_t medium_length, bbl_hand
 bbl_stepped bbl_step(uint8_t *medium, size_t medium_length, const uint64_t *plan, size_t words, const uint8_t *bytes, size_t length,
                      uint64_t i);
 
-/* THE TWO PUTS THAT STEPS MOSTLY ARE, without a plan: bbl_make_step calls them. Each answers how many bytes were put, or 0 and nothing is
- * written. The first puts bytes[a] to bytes[b - 1] at an offset of the medium, if they are there and fit; the second a number, as 8 bytes from
- * the lowest, if they fit. */
+/* THE TWO PUTS THAT STEPS MOSTLY ARE, for bbl_make_step, which reads a plan and calls them. They know nothing of the log: a put of your own over a
+ * header or the selector destroys it. Each answers how many bytes were put, or 0 and nothing is written. The first puts bytes[a] to bytes[b - 1]
+ * at an offset of the medium, if they are there and fit (none if a = b); the second a number, as 8 bytes from the lowest, if they fit. */
 uint64_t bbl_put_bytes(uint8_t *medium, size_t medium_length, uint64_t at, const uint8_t *bytes, size_t length, uint64_t a, uint64_t b);
 uint64_t bbl_put_number(uint8_t *medium, size_t medium_length, uint64_t at, uint64_t number);
 
@@ -233,6 +234,13 @@ bbl_reply bbl_ask(const uint8_t *medium, size_t medium_length, bbl_handle handle
 
 /* ---- what follows is C over the archive's functions */
 
+/* whether there is somebody to tell */
+#ifdef BBL_WRITTEN
+enum { BBL_TELLS_ = 1 };
+#else
+enum { BBL_TELLS_ = 0 };
+#define BBL_WRITTEN(address, length) ((void)(address), (void)(length))
+#endif
 #ifndef BBL_FLUSH
 #define BBL_FLUSH() ((void)0)
 #endif
@@ -312,7 +320,7 @@ static inline bbl_stepped bbl_did_(uint64_t code, uint64_t at, uint64_t length)
     return did;
 }
 
-/* The step that six numbers are. A put that puts nothing is asked for again, from bbl_step, which says whether it was refused. */
+/* The step that six numbers are. Whatever is not known here, and a put that put nothing, is left to bbl_step: it says whether it is refused. */
 static inline bbl_stepped bbl_make_six_(uint8_t *medium, size_t medium_length, const uint64_t *six, const uint8_t *bytes, size_t length)
 {
     uint64_t put = 0;
@@ -336,43 +344,45 @@ static inline bbl_stepped bbl_make_step(uint8_t *medium, size_t medium_length, c
 }
 
 /* What was put, and BBL_WRITTEN is not told of yet: from an offset up to another; nothing if they are equal. Of puts that lie within 32 bytes it
- * is told at once. */
+ * is told in one call. */
 typedef struct {
     uint64_t from, to;
 } bbl_untold_;
 
 static inline void bbl_tell_(uint8_t *medium, bbl_untold_ *untold)
 {
-#ifdef BBL_WRITTEN
-    if (untold->from != untold->to) {
-        BBL_WRITTEN(medium + untold->from, (size_t)(untold->to - untold->from));
+    if (BBL_TELLS_ && untold->from != untold->to) {
+        /* names that no hook has */
+        uint8_t *const bbl_address_ = medium + untold->from;
+        const size_t bbl_length_ = (size_t)(untold->to - untold->from);
+        BBL_WRITTEN(bbl_address_, bbl_length_);
+        (void)bbl_address_;
+        (void)bbl_length_;
     }
     untold->from = untold->to = 0;
-#else
-    (void)medium;
-    (void)untold;
-#endif
 }
 
 static inline void bbl_was_put_(uint8_t *medium, bbl_untold_ *untold, uint64_t at, uint64_t length)
 {
-    BBL_PERSIST(medium + at, (size_t)length);
-#ifdef BBL_WRITTEN
-    if (untold->from == untold->to || at < untold->from || at + length < untold->to || at + length - untold->from > 32) {
-        bbl_tell_(medium, untold);
-        untold->from = at;
+    uint8_t *const bbl_address_ = medium + at;
+    const size_t bbl_length_ = (size_t)length;
+    BBL_PERSIST(bbl_address_, bbl_length_);
+    (void)bbl_address_;
+    (void)bbl_length_;
+    if (BBL_TELLS_) {
+        if (untold->from == untold->to || at < untold->from || at + length < untold->to || at + length - untold->from > 32) {
+            bbl_tell_(medium, untold);
+            untold->from = at;
+        }
+        untold->to = at + length;
     }
-    untold->to = at + length;
-#else
-    (void)untold;
-#endif
 }
 
 /* Carries out so many steps of a plan, all of which are there, with the hooks. Answers the number of the first that was refused, or `steps`. */
 static inline uint64_t bbl_make_steps_(uint8_t *medium, size_t medium_length, const uint64_t *plan, const uint8_t *bytes, size_t length,
                                        uint64_t steps)
 {
-    const uint64_t *const end = plan + BBL_SIX_ * steps;
+    const uint64_t *const end = steps == 0 ? plan : plan + BBL_SIX_ * steps;
     const uint64_t *six;
     bbl_untold_ untold = {0, 0};
     for (six = plan; six != end; six += BBL_SIX_) {

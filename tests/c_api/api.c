@@ -456,6 +456,9 @@ static void steps(void)
         plan[13] = i == 1 ? 93 : plan[13];
         ANSWERS(bbl_carry_out(medium, 100, plan, i == 2 ? 17 : BBL_PLAN_WORDS, NULL, 0, reply), BBL_BROKEN_PLAN, 2, 0);
     }
+    /* no steps of no plan */
+    reply.steps = 0;
+    CHECK(bbl_carry_out(medium, 100, NULL, 0, NULL, 0, reply).code == BBL_OK);
     /* a number, from its lowest byte, and nothing beside it */
     memset(medium, 0xee, MOST);
     remember();

@@ -119,4 +119,41 @@ mod tests {
         // up to the last address
         assert_eq!(aligned_and_apart(8, usize::MAX - 8, usize::MAX - 4, 4), Err(Error::Overlap));
     }
+
+    /// Any plan, made by `carry_out` and by `bbl_step`: the same answer, and the same medium afterwards.
+    #[test]
+    fn steps_as_the_archive_makes_them() {
+        let mut seed = 88172645463325252u64;
+        let mut random = move |below: u64| {
+            seed ^= seed << 13;
+            seed ^= seed >> 7;
+            seed ^= seed << 17;
+            seed.wrapping_mul(2685821657736338717) % below
+        };
+        let mut seen = [0; 3];
+        for _ in 0..200_000 {
+            let (mut medium, bytes) = ([7; 100], [9; 60]);
+            let (length, count) = (random(101), random(61));
+            let mut plan: Plan = [0; PLAN_WORDS];
+            for k in 0..PLAN_WORDS {
+                plan[k] = match k % STEP_WORDS {
+                    0 => random(5),
+                    3 if random(2) == 0 => plan[k - 1].wrapping_add(random(20)),
+                    _ if random(6) == 0 => u64::MAX - random(20),
+                    _ => random(110),
+                };
+            }
+            let i = random(10);
+            let mut by_step = medium;
+            let should = unsafe {
+                let (at, words) = (by_step.as_mut_ptr(), plan.len());
+                sys::bbl_step(at, length as usize, plan.as_ptr(), words, bytes.as_ptr(), count as usize, i)
+            };
+            let is = carry_out(&mut medium[..length as usize], &plan, &bytes[..count as usize], i);
+            assert_eq!(is.unwrap_or(Stepped { code: step::REFUSED, at: 0, length: 0 }), should);
+            assert_eq!(medium, by_step);
+            seen[should.code as usize] += 1;
+        }
+        assert!(seen.iter().all(|&times| times > 1000));
+    }
 }

@@ -54,7 +54,7 @@ pub use crate::medium::Medium;
 pub use crate::memory::{Memory, Plain, Step};
 
 /// The version of this crate, of the C header and of the program `blackbox`.
-pub const VERSION: &str = "0.1.0";
+pub const VERSION: &str = "0.2.0";
 
 /// A medium of so many bytes more has a capacity of so many bytes.
 ///
