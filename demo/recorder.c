@@ -18,7 +18,7 @@
 
 static void written(const uint8_t *address, size_t length);
 static void flush(void);
-#define BBL_WRITTEN(address, length) written(address, length)
+#define BBL_PERSIST(address, length) written(address, length)
 #define BBL_FLUSH() flush()
 #include "blackboxlog.h"
 

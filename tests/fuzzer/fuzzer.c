@@ -21,7 +21,7 @@ static bbl_reply opens_full(const uint8_t *medium, size_t length) {
 }
 
 static const log_under_test tried = {
-    "wrong", opens_full, bbl_plan_setup, bbl_plan_append, bbl_plan_advance, bbl_step, bbl_read, bbl_ask,
+    "wrong", opens_full, bbl_plan_setup, bbl_plan_append, bbl_plan_advance, bbl_step, bbl_read, bbl_ask, bbl_make_step,
 };
 #else
 static const log_under_test tried = THE_ARCHIVE;
