@@ -1,7 +1,7 @@
-/* bench [--quick] [--ring KIB]: how long appends, reads, openings and checksums take, beside the same log by hand in C, memcpy, liblzma and libpmemlog. Medians
- * of five rounds; in a round all are measured in turn, eleven times, and the median counts. In nanoseconds and as ratios, and which goals they
- * reach. Before that the two logs are held against each other, byte for byte. --quick: one short round, which shows that everything works
- * and no time. --ring KIB: a ring of another length than 256 KiB. */
+/* bench [--quick] [--ring KIB]: how long appends, reads, openings and checksums take, beside the same log by hand in C, memcpy, liblzma and
+ * libpmemlog. Medians of five rounds; in a round all are measured in turn, eleven times, and the median counts. In nanoseconds and as ratios,
+ * and which goals they reach. Before that the two logs are held against each other, byte for byte. --quick: one short round, which shows that
+ * everything works and no time. --ring KIB: a ring of another length than 256 KiB. */
 #define _GNU_SOURCE
 #include "subject.h"
 #include <inttypes.h>
@@ -21,9 +21,12 @@ enum { ROUNDS = 5, TURNS = 11, LARGEST = 4096, CELLS = 64 };
 
 /* The ring is small enough to stay in a processor's second cache together with libpmemlog's file, unless --ring says otherwise: a larger one
  * measures where its pages happen to be, and no two runs agree. */
-static size_t ring = 1 << 18, whole;
+static size_t ring = 1 << 18;
 
+/* the medium, and its length */
 static uint8_t *medium;
+static size_t whole;
+
 /* Where the payload is, and where a read goes, and the stack. A processor takes a load for one of what was just stored if the two addresses agree
  * in their last twelve bits: how long a copy takes hangs on that, and so on where the linker put the buffers. So they are elsewhere in each
  * turn, for all that are measured in it. */
@@ -40,11 +43,12 @@ static void go_to(int place)
 }
 
 /* takes room from the stack, so that what is called stands elsewhere on it */
-#define ELSEWHERE()                                               \
-    do {                                                          \
+#define ELSEWHERE()                                                   \
+    do {                                                              \
         char *const room = __builtin_alloca(16 + (shift * 5) % 4096); \
-        __asm__ volatile("" ::"r"(room) : "memory");              \
+        __asm__ volatile("" ::"r"(room) : "memory");                  \
     } while (0)
+
 static int quick, turns;
 
 static void fail(const char *what)

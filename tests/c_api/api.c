@@ -302,8 +302,8 @@ static void no_bytes(void)
     CHECK(same(bbl_open(medium, 73).handle, log));
 }
 
-/* BBL_PERSIST is told of every put, in order, and of nothing else. BBL_WRITTEN is told of all of them before the flush, of those of a header at
- * once. A flush stands before the selector's put and after it. */
+/* BBL_PERSIST is told of every put, in order, and of nothing else. BBL_WRITTEN is told of all of them before the flush, of those of a header in
+ * one call. A flush stands before the selector's put and after it. */
 static void hooks(size_t length, bbl_handle log, unsigned runs)
 {
     const uint8_t *bytes = (const uint8_t *)"0123456789abcdef";

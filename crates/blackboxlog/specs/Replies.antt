@@ -24,6 +24,7 @@ abbrev pub side : Bool → ℕ
 side false = 0
 side true = 1
 
+-- the handle of these four numbers: the live header, head, tail and size
 abbrev pub kept : ℕ → ℕ → ℕ → ℕ → Kept
 kept l h t z = record { live = l; head = h; tail = t; size = z }
 

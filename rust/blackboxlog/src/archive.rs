@@ -48,7 +48,8 @@ pub fn plan_advance(medium: &[u8], handle: Handle, position: u64, plan: &mut Pla
 }
 
 /// What a step did, or `None` if it was refused. Where it is a flush nothing is called, and where it is bytes or a number, as it mostly is, what
-/// puts them and takes less time than `bbl_step`. A put that puts nothing is asked for again, from `bbl_step`, which says whether it was refused.
+/// puts them and takes less time than `bbl_step`. Whatever else it is, and a put that put nothing, is left to `bbl_step`: it says whether it is
+/// refused.
 pub fn carry_out(medium: &mut [u8], plan: &Plan, bytes: &[u8], i: u64) -> Option<Stepped> {
     let six = plan.chunks_exact(STEP_WORDS).nth(usize::try_from(i).ok()?)?;
     let (at, length) = (medium.as_mut_ptr(), medium.len());
