@@ -1,5 +1,7 @@
 // The boundary: what C and Rust link. Each function is a thin wrapper; none makes more than one write, so that the caller can flush between
 // two; none has a `requires`. include/blackboxlog.h says in words what each does.
+#![tactic(auto)]
+
 ghost use Rattle.std.specs.Prelude.{◌≡◌, List, [], ℕ};
 ghost use lib.ListN.{length};
 ghost use Rattle.crc64.specs.Crc64.{crc_of};

@@ -1,4 +1,6 @@
 // The checksum CRC-64/XZ, bit by bit. `crc_of` of specs/ is its definition.
+#![tactic(auto)]
+
 ghost use Rattle.std.specs.Prelude.{◌≡◌, List, [], ◌∷◌, ◌++◌, ℕ};
 ghost use Rattle.std.specs.Int.Bits.{bit_xor};
 ghost use Rattle.crc64.specs.Crc64.{crc_of};

@@ -1,4 +1,6 @@
 // The checksum, eight bytes at a time. Each contract is the plain form's, word for word: these functions differ from it in time alone.
+#![tactic(auto)]
+
 ghost use Rattle.std.specs.Prelude.{◌≡◌, List, ◌∷◌, ◌++◌, ℕ, suc, ◌+◌, ◌*◌, ◌≤◌, ◌<◌, length, take, drop};
 ghost use Rattle.crc64.specs.Crc64.{crc_of};
 ghost use Rattle.device.specs.Word.{low, le};

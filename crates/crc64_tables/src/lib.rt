@@ -1,5 +1,7 @@
 // The tables of the checksum: a word's 64 bits in parts of six, from the lowest, and what the division leaves of each part and the zeros
 // that follow it in the word. A table is a `match`, which the compiler makes a constant of the program: nothing is filled or lent.
+#![tactic(auto)]
+
 ghost use Rattle.std.specs.Prelude.{◌≡◌, ◌%◌};
 ghost use Rattle.crc64_tables.specs.Leaves.{leaves};
 

@@ -1,5 +1,7 @@
 // Writes a line for each vector: its name and its checksum. The file `stdout` beside this folder is what liblzma gives for the same bytes:
 // tests/vectors/make_vectors.c wrote it, and says how.
+#![tactic(auto)]
+
 use crc64::State;
 use libc::STDOUT_FILENO;
 

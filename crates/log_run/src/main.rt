@@ -1,5 +1,7 @@
 // Runs the log: document 01's run (section 5), rings of 1, 2, 10 and 65,537 bytes, positions near the last, and media that must be refused.
 // What it writes is held to the file `stdout` beside this folder, which was gone through by hand with document 01's rules.
+#![tactic(auto)]
+
 use libc::STDOUT_FILENO;
 use record_log::{Advanced, Appended, Got, Handle, Numbers, Opened, SetUp};
 

@@ -1,5 +1,7 @@
 // Replays the source's sample: the operations of the first column of tests/oracle/sample.txt, and writes what it sees. The file `stdout`
 // beside this folder is that sample, so what is written is held to the source's answers; tests/oracle/README.md has the format.
+#![tactic(auto)]
+
 use crc64::State;
 use libc::STDOUT_FILENO;
 use record_log::{Advanced, Appended, Got, Handle, Numbers, Opened, SetUp};
