@@ -18,7 +18,7 @@ use record_log::{Advanced, Appended, Got, Handle, Numbers, Opened, SetUp};
 
 // A handle as C has it: the header that is live is the first (0) or the second (1).
 #[repr(C)]
-#[derive(Drop)]
+#[derive(Clone, Copy)]
 pub struct Kept {
     pub live: u64,
     pub head: u64,
@@ -28,7 +28,7 @@ pub struct Kept {
 
 // An answer: a code (include/blackboxlog.h has their names), up to two numbers, the number of steps where it is a plan, and the handle.
 #[repr(C)]
-#[derive(Drop)]
+#[derive(Clone, Copy)]
 pub struct Reply {
     pub code: u64,
     pub number: u64,
@@ -39,7 +39,7 @@ pub struct Reply {
 
 // What a step did: put so many bytes at a place (0), asked for a flush (1), or was refused (2).
 #[repr(C)]
-#[derive(Drop)]
+#[derive(Clone, Copy)]
 pub struct Stepped {
     pub code: u64,
     pub at: u64,

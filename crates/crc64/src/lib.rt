@@ -31,7 +31,7 @@ fn feed(register: u64, byte: u8) -> u64
 }
 
 // The checksum of bytes that come in parts: `sum` is that of the bytes so far.
-#[derive(Drop)]
+#[derive(Clone, Copy)]
 pub struct State {
     pub sum: u64,
 }
