@@ -5,25 +5,21 @@ use lib.Dec.{eqb}
 use Rattle.record_log.specs.declared.Handle.{Handle}
 use Rattle.operations.proofs.Reading.{read_part}
 use Rattle.blackboxlog.specs.Replies.{side, known, handle_of, kept_of}
-use Rattle.blackboxlog.proofs.joined.Statement.{statement}
-use Rattle.blackboxlog.proofs.joined.Tie as tie
+use Rattle.blackboxlog.proofs.joined.Goals as goal
 
-side-back : (s : Bool) → eqb (side s) 1 ≡ s
-side-back false = refl
-side-back true = refl
+side_back : (s : Bool) → eqb (side s) 1 ≡ s
+side_back false = refl
+side_back true = refl
 
-side-known : (h : Handle) → known (kept_of h) ≡ true
-side-known h = go h.second
+side_known : (h : Handle) → known (kept_of h) ≡ true
+side_known h = go h.second
   where
     go : (s : Bool) → known (kept_of (record { second = s; head = h.head; tail = h.tail; size = h.size })) ≡ true
     go false = refl
     go true = refl
 
 back : (h : Handle) → handle_of (kept_of h) ≡ h
-back h = ap (λ (s : Bool). record { second = s; head = h.head; tail = h.tail; size = h.size }) (side-back h.second)
+back h = ap (λ (s : Bool). record { second = s; head = h.head; tail = h.tail; size = h.size }) (side_back h.second)
 
-returns : tie.Need-returns
-returns c = record { handle = λ h. (side-known h, back h); read = read_part }
-
-pub joined-spec : {M : Type 1} → statement M
-joined-spec = tie.close (tie.spec returns)
+pub returns : goal.returns
+returns c = record { handle = λ h. (side_known h, back h); read = read_part }
