@@ -271,24 +271,21 @@ fn bytes_put(o: Done) -> u64
 }
 
 // The checksum of bytes.
-#[unsafe(no_mangle)]
-pub extern "C" fn bbl_crc64(bytes: &[u8]) -> u64
+pub fn bbl_crc64(bytes: &[u8]) -> u64
     ensures { result ≡ crc_of bytes.now }
 {
     crc64_fast::crc64(bytes)
 }
 
 // What stands on a medium.
-#[unsafe(no_mangle)]
-pub extern "C" fn bbl_open(medium: &[u8]) -> Reply
+pub fn bbl_open(medium: &[u8]) -> Reply
     ensures { result ≡ opened_reply (open_of medium.now) }
 {
     opened_reply(operations::start(medium))
 }
 
 // A plan to set up the medium.
-#[unsafe(no_mangle)]
-pub extern "C" fn bbl_plan_setup(medium: &[u8], plan: &mut [u64]) -> Reply
+pub fn bbl_plan_setup(medium: &[u8], plan: &mut [u64]) -> Reply
     ensures { (result ≡ set_up_reply (if_room plan.old (SetUp.ShortPlan plan_words) (set_up_of (length medium.now))) result.steps) × ((b : List ℕ) → Planned plan.old b (if_room plan.old [] (set_up_plan (length medium.now))) result.steps plan.new) }
 {
     let p = operations::plan_setup(medium.len() as u64, plan);
@@ -298,8 +295,7 @@ pub extern "C" fn bbl_plan_setup(medium: &[u8], plan: &mut [u64]) -> Reply
 
 // A plan to append `length` bytes. The handle comes as its four numbers: handed over as a struct it would be copied in pieces of 16 bytes that
 // were written in pieces of 8, for which a processor waits, and the next append with it.
-#[unsafe(no_mangle)]
-pub extern "C" fn bbl_plan_append_of(
+pub fn bbl_plan_append_of(
     medium: &[u8],
     live: u64,
     head: u64,
@@ -327,8 +323,7 @@ pub extern "C" fn bbl_plan_append_of(
 }
 
 // A plan to advance the head to a position.
-#[unsafe(no_mangle)]
-pub extern "C" fn bbl_plan_advance(
+pub fn bbl_plan_advance(
     medium: &[u8],
     handle: Kept,
     position: u64,
@@ -347,8 +342,7 @@ pub extern "C" fn bbl_plan_advance(
 }
 
 // One step of a plan: at most one write.
-#[unsafe(no_mangle)]
-pub extern "C" fn bbl_step(medium: &mut [u8], plan: &[u64], bytes: &[u8], i: u64) -> Stepped
+pub fn bbl_step(medium: &mut [u8], plan: &[u64], bytes: &[u8], i: u64) -> Stepped
     ensures { (result ≡ step_reply (carried medium.old (step_in plan.now bytes.now i))) × (medium.new ≡ leaves medium.old (step_in plan.now bytes.now i)) }
 {
     step_reply(carrier::step(medium, plan, bytes, i as usize))
@@ -356,24 +350,21 @@ pub extern "C" fn bbl_step(medium: &mut [u8], plan: &[u64], bytes: &[u8], i: u64
 
 // Puts the bytes from a to b at a place: what `bbl_step` does where the step's kind is 1. How many bytes were put: none if they are not there or do
 // not fit.
-#[unsafe(no_mangle)]
-pub extern "C" fn bbl_put_bytes(medium: &mut [u8], at: u64, bytes: &[u8], a: u64, b: u64) -> u64
+pub fn bbl_put_bytes(medium: &mut [u8], at: u64, bytes: &[u8], a: u64, b: u64) -> u64
     ensures { (result ≡ bytes_put (carried medium.old (part_at at a b bytes.now))) × (medium.new ≡ leaves medium.old (part_at at a b bytes.now)) }
 {
     bytes_put(carrier::put_part(medium, at, bytes, a, b))
 }
 
 // Puts a number: what `bbl_step` does where the step's kind is 2. How many bytes were put: eight, or none if they do not fit.
-#[unsafe(no_mangle)]
-pub extern "C" fn bbl_put_number(medium: &mut [u8], at: u64, x: u64) -> u64
+pub fn bbl_put_number(medium: &mut [u8], at: u64, x: u64) -> u64
     ensures { (result ≡ bytes_put (carried medium.old (bytes_at at (le x)))) × (medium.new ≡ leaves medium.old (bytes_at at (le x))) }
 {
     bytes_put(carrier::put_word(medium, at, x))
 }
 
 // The bytes from a position on, as many as `out` has.
-#[unsafe(no_mangle)]
-pub extern "C" fn bbl_read(medium: &[u8], handle: Kept, position: u64, out: &mut [u8]) -> Reply
+pub fn bbl_read(medium: &[u8], handle: Kept, position: u64, out: &mut [u8]) -> Reply
     ensures { (result ≡ if_known handle (got_reply (read_of (handle_of handle) position (length out.old) (length medium.now))) bad_handle) × (out.new ≡ if_known handle (read_into medium.now (handle_of handle) position out.old) out.old) }
 {
     if 1 < handle.live {
@@ -383,8 +374,7 @@ pub extern "C" fn bbl_read(medium: &[u8], handle: Kept, position: u64, out: &mut
 }
 
 // Head, tail and capacity.
-#[unsafe(no_mangle)]
-pub extern "C" fn bbl_ask(medium: &[u8], handle: Kept) -> Reply
+pub fn bbl_ask(medium: &[u8], handle: Kept) -> Reply
     ensures { result ≡ if_known handle (numbers_reply (ask_of (handle_of handle) (length medium.now))) bad_handle }
 {
     if 1 < handle.live {
