@@ -323,12 +323,7 @@ pub fn bbl_plan_append_of(
 }
 
 // A plan to advance the head to a position.
-pub fn bbl_plan_advance(
-    medium: &[u8],
-    handle: Kept,
-    position: u64,
-    plan: &mut [u64],
-) -> Reply
+pub fn bbl_plan_advance(medium: &[u8], handle: Kept, position: u64, plan: &mut [u64]) -> Reply
     ensures { (b : List ℕ) → (result ≡ if_known handle (advanced_reply (if_room plan.old (Advanced.ShortPlan plan_words) (advance_of (handle_of handle) position (length medium.now))) result.steps) bad_handle) × Planned plan.old b (if_known handle (if_room plan.old [] (plan_of (handle_of handle) (advance position) medium.now)) []) result.steps plan.new }
 {
     if 1 < handle.live {

@@ -11,8 +11,8 @@ pub loop-i-preserved : goal.loop-i-preserved
 loop-i-preserved c =
     let e : fall poly c.loop-i.x ≡ c.if-x-eq1.x =
     elim c.if-x-eq1.branch [
-      then-x-eq1 w ↦ fall_odd poly _ w.if-x-eq1.true ∙ sym w.x-is
-    | else-x-eq1 w ↦ fall_even poly _ w.if-x-eq1.false ∙ sym w.x-is
+      | then-x-eq1 w ↦ fall_odd poly _ w.if-x-eq1.true ∙ sym w.x-is
+      | else-x-eq1 w ↦ fall_even poly _ w.if-x-eq1.false ∙ sym w.x-is
     ] in
     (search rules, falls_turn poly 8 _ _ _ _ (search rules) c.loop-i.invariant.1 e)
 
