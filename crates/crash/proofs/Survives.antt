@@ -1,12 +1,12 @@
 -- `Survives` holds of every system with the laws of `Right`: an invariant that holds of the handle, the device and the state while the
 -- power is on. By induction on the events. Assumes nothing.
-use mathlib.Core.Path.{◌≡◌, refl, sym, ap, ◌∙◌, subst}
+use mathlib.Core.Path.{◌≡◌, refl, subst}
 use mathlib.Core.Logic.{◌⊎◌, inl, inr, ⊎_elim}
 use mathlib.Core.List.{List, [], ◌∷◌}
 use Prim.Native.Nat.{ℕ}
-use Rattle.device.specs.Device.{Step, Device, still, seen, after, upto, Left, Safe}
-use Rattle.device.specs.Found.{Found, found, nothing}
-use Rattle.crash.specs.System.{System, each, recover, Now, on, off, Event, answered, cut_in, cut, cut_reopening, reopened, Runs, Means, Shows, Survives}
+use Rattle.device.specs.Device.{Device, still, seen, after, Left, Safe}
+use Rattle.device.specs.Found.{found}
+use Rattle.crash.specs.System.{System, recover, Now, on, off, Event, answered, cut_in, cut, cut_reopening, reopened, Runs, Means, Shows, Survives}
 
 pub record Right (S : System) : Type 1 where
   pub Live : S.Handle → Device → S.State → Type 0
