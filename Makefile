@@ -15,16 +15,16 @@ RUSTC := tools/x86 rustc --edition 2021 -O -L build
 help: ## this list
 	@grep -E '^[a-z-]+:.*## ' Makefile | sed -E 's/^([a-z-]+):.*## /make \1\t/' | expand -t 16
 
-test: ## the gate: proofs from nothing, must-fail edits, programs, every other test; last line 'N passed, M failed'
+test: ## the gate: proofs, must-fail edits, programs, every other test; last line 'N passed, M failed'
 	@tests/gate
 
 test-long: ## the gate with all that its tests can try: under an hour more
 	@tests/gate --long
 
-check: ## quick: prove what changed since the last time and run the programs
-	@rt check
+check: ## quick: prove what changed since the last time
+	@rt all check
 
-figures: ## lines and seconds for each crate, and what each must-fail edit rules out
+figures: ## lines of each crate, and what each must-fail edit rules out
 	@tools/figures
 
 lib: build/libblackboxlog.a ## the archive that C and Rust programs link, for x86-64: build/libblackboxlog.a
@@ -69,5 +69,5 @@ bench: lib ## times beside the same log by hand in C, memcpy, liblzma and libpme
 	@bench/run
 
 clean: ## remove all that was made; what was fetched stays
-	rm -rf target
+	rm -rf target crates/*/out
 	[ ! -d build ] || find build -mindepth 1 -maxdepth 1 ! -name x86-64 -exec rm -rf {} +
