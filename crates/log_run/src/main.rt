@@ -2,40 +2,38 @@
 // What it writes is held to the file `stdout` beside this folder, which was gone through by hand with document 01's rules.
 #![tactic(auto)]
 
-use libc::STDOUT_FILENO;
 use record_log::{Advanced, Appended, Got, Handle, Numbers, Opened, SetUp};
+use std::io;
 
 const FIRST: u64 = 0xa328_42d1_9001_605e;
 
 const LAST: u64 = 0xffff_ffff_ffff_ffff;
 
-fn text(s: &[u8]) {
-    io::write_all(STDOUT_FILENO, s);
+fn text(rt: &impl Print, s: &[u8]) -> io::Result<()> {
+    rt.write_all(s)
 }
 
-fn number(n: u64) {
-    text(b" ");
-    io::print_decimal(STDOUT_FILENO, n);
+fn number(rt: &impl Print, n: u64) -> io::Result<()> {
+    print!(rt; " {n}")
 }
 
-fn hex(n: u64) {
-    text(b" ");
-    io::print_hex(STDOUT_FILENO, n, 16);
+fn hex(rt: &impl Print, n: u64) -> io::Result<()> {
+    print!(rt; " {n:016x}")
 }
 
-fn end() {
-    text(b"\n");
+fn end(rt: &impl Print) -> io::Result<()> {
+    text(rt, b"\n")
 }
 
-fn numbers(h: Handle) {
+fn numbers(rt: &impl Print, h: Handle) -> io::Result<()> {
     if h.second {
-        text(b" second");
+        text(rt, b" second")?;
     } else {
-        text(b" first");
+        text(rt, b" first")?;
     }
-    number(h.head);
-    number(h.tail);
-    number(h.size);
+    number(rt, h.head)?;
+    number(rt, h.tail)?;
+    number(rt, h.size)
 }
 
 fn none() -> Handle {
@@ -47,264 +45,266 @@ fn none() -> Handle {
     }
 }
 
-fn opened(o: Opened) -> Handle {
-    text(b"open");
-    let h = opened_said(o);
-    end();
-    h
+fn opened(rt: &impl Print, o: Opened) -> io::Result<Handle> {
+    text(rt, b"open")?;
+    let h = opened_said(rt, o)?;
+    end(rt)?;
+    Ok(h)
 }
 
-fn opened_said(o: Opened) -> Handle {
+fn opened_said(rt: &impl Print, o: Opened) -> io::Result<Handle> {
     match o {
         Opened::Log { handle } => {
-            numbers(handle);
-            return handle;
+            numbers(rt, handle)?;
+            return Ok(handle);
         }
         Opened::TooShort { required } => {
-            text(b" too short");
-            number(required);
+            text(rt, b" too short")?;
+            number(rt, required)?;
         }
         Opened::BadSelector { found } => {
-            text(b" bad selector");
-            hex(found);
+            text(rt, b" bad selector")?;
+            hex(rt, found)?;
         }
         Opened::BadChecksum {
             second,
             stored,
             computed,
         } => {
-            bad_checksum(second, stored, computed);
+            bad_checksum(rt, second, stored, computed)?;
         }
         Opened::SizeZero => {
-            text(b" size zero");
+            text(rt, b" size zero")?;
         }
         Opened::HeadPastTail { head, tail } => {
-            text(b" head past tail");
-            number(head);
-            number(tail);
+            text(rt, b" head past tail")?;
+            number(rt, head)?;
+            number(rt, tail)?;
         }
         Opened::TooFull { head, tail, size } => {
-            text(b" too full");
-            number(head);
-            number(tail);
-            number(size);
+            text(rt, b" too full")?;
+            number(rt, head)?;
+            number(rt, tail)?;
+            number(rt, size)?;
         }
         Opened::WrongSize { size, ring } => {
-            text(b" wrong size");
-            number(size);
-            number(ring);
+            text(rt, b" wrong size")?;
+            number(rt, size)?;
+            number(rt, ring)?;
         }
     }
-    none()
+    Ok(none())
 }
 
-fn bad_checksum(second: bool, stored: u64, computed: u64) {
+fn bad_checksum(rt: &impl Print, second: bool, stored: u64, computed: u64) -> io::Result<()> {
     if second {
-        text(b" bad checksum second");
+        text(rt, b" bad checksum second")?;
     } else {
-        text(b" bad checksum first");
+        text(rt, b" bad checksum first")?;
     }
-    hex(stored);
-    hex(computed);
+    hex(rt, stored)?;
+    hex(rt, computed)
 }
 
-fn set_up(o: SetUp) -> Handle {
-    text(b"set up");
-    let h = set_up_said(o);
-    end();
-    h
+fn set_up(rt: &impl Print, o: SetUp) -> io::Result<Handle> {
+    text(rt, b"set up")?;
+    let h = set_up_said(rt, o)?;
+    end(rt)?;
+    Ok(h)
 }
 
-fn set_up_said(o: SetUp) -> Handle {
+fn set_up_said(rt: &impl Print, o: SetUp) -> io::Result<Handle> {
     match o {
         SetUp::Ready { capacity, handle } => {
-            number(capacity);
-            return handle;
+            number(rt, capacity)?;
+            return Ok(handle);
         }
         SetUp::TooShort { required } => {
-            text(b" too short");
-            number(required);
+            text(rt, b" too short")?;
+            number(rt, required)?;
         }
         SetUp::ShortPlan { words } => {
-            number(words);
+            number(rt, words)?;
         }
     }
-    none()
+    Ok(none())
 }
 
-fn append(m: &mut [u8], h: Handle, b: &[u8]) -> Handle {
-    text(b"append");
-    number(b.len() as u64);
+fn append(rt: &impl Print, m: &mut [u8], h: Handle, b: &[u8]) -> io::Result<Handle> {
+    text(rt, b"append")?;
+    number(rt, b.len() as u64)?;
     let o = operations::append(m, h, b);
-    let next = appended_said(h, o);
-    end();
-    next
+    let next = appended_said(rt, h, o)?;
+    end(rt)?;
+    Ok(next)
 }
 
-fn appended_said(h: Handle, o: Appended) -> Handle {
+fn appended_said(rt: &impl Print, h: Handle, o: Appended) -> io::Result<Handle> {
     match o {
         Appended::At { position, handle } => {
-            text(b" at");
-            number(position);
-            return handle;
+            text(rt, b" at")?;
+            number(rt, position)?;
+            return Ok(handle);
         }
         Appended::NoRoom { room } => {
-            text(b" no room");
-            number(room);
+            text(rt, b" no room")?;
+            number(rt, room)?;
         }
         Appended::BadHandle => {
-            text(b" bad handle");
+            text(rt, b" bad handle")?;
         }
         Appended::ShortPlan { words } => {
-            number(words);
+            number(rt, words)?;
         }
     }
-    h
+    Ok(h)
 }
 
-fn advance(m: &mut [u8], h: Handle, p: u64) -> Handle {
-    text(b"advance");
-    number(p);
+fn advance(rt: &impl Print, m: &mut [u8], h: Handle, p: u64) -> io::Result<Handle> {
+    text(rt, b"advance")?;
+    number(rt, p)?;
     let o = operations::advance_head(m, h, p);
-    let next = advanced_said(h, o);
-    end();
-    next
+    let next = advanced_said(rt, h, o)?;
+    end(rt)?;
+    Ok(next)
 }
 
-fn advanced_said(h: Handle, o: Advanced) -> Handle {
+fn advanced_said(rt: &impl Print, h: Handle, o: Advanced) -> io::Result<Handle> {
     match o {
         Advanced::To { handle } => {
-            return handle;
+            return Ok(handle);
         }
         Advanced::BeforeHead { head } => {
-            text(b" before head");
-            number(head);
+            text(rt, b" before head")?;
+            number(rt, head)?;
         }
         Advanced::BeyondTail { tail } => {
-            text(b" beyond tail");
-            number(tail);
+            text(rt, b" beyond tail")?;
+            number(rt, tail)?;
         }
         Advanced::BadHandle => {
-            text(b" bad handle");
+            text(rt, b" bad handle")?;
         }
         Advanced::ShortPlan { words } => {
-            number(words);
+            number(rt, words)?;
         }
     }
-    h
+    Ok(h)
 }
 
-fn read(m: &[u8], h: Handle, p: u64, out: &mut [u8]) {
-    text(b"read");
-    number(out.len() as u64);
-    text(b" from");
-    number(p);
+fn read(rt: &impl Print, m: &[u8], h: Handle, p: u64, out: &mut [u8]) -> io::Result<()> {
+    text(rt, b"read")?;
+    number(rt, out.len() as u64)?;
+    text(rt, b" from")?;
+    number(rt, p)?;
     let o = operations::read(m, h, p, out);
-    read_said(o, out);
-    end();
+    read_said(rt, o, out)?;
+    end(rt)
 }
 
-fn read_said(o: Got, out: &[u8]) {
+fn read_said(rt: &impl Print, o: Got, out: &[u8]) -> io::Result<()> {
     match o {
         Got::Bytes => {
-            text(b" ");
-            text(out);
+            text(rt, b" ")?;
+            text(rt, out)?;
         }
         Got::BeforeHead { head } => {
-            text(b" before head");
-            number(head);
+            text(rt, b" before head")?;
+            number(rt, head)?;
         }
         Got::BeyondTail { tail } => {
-            text(b" beyond tail");
-            number(tail);
+            text(rt, b" beyond tail")?;
+            number(rt, tail)?;
         }
         Got::BadHandle => {
-            text(b" bad handle");
+            text(rt, b" bad handle")?;
         }
     }
+    Ok(())
 }
 
-fn ask(m: &[u8], h: Handle) {
-    text(b"ask");
+fn ask(rt: &impl Print, m: &[u8], h: Handle) -> io::Result<()> {
+    text(rt, b"ask")?;
     match operations::get_head_and_tail(h, m.len() as u64) {
         Numbers::Of {
             head,
             tail,
             capacity,
         } => {
-            number(head);
-            number(tail);
-            number(capacity);
+            number(rt, head)?;
+            number(rt, tail)?;
+            number(rt, capacity)?;
         }
         Numbers::BadHandle => {
-            text(b" bad handle");
+            text(rt, b" bad handle")?;
         }
     }
-    end();
+    end(rt)
 }
 
 // Document 01, section 5.
-fn document_run(m: &mut [u8]) {
-    text(b"-- the run of document 01\n");
-    let h0 = set_up(operations::setup(m));
-    let h1 = append(m, h0, b"abcdef");
-    let h2 = append(m, h1, b"ghij");
-    let h3 = advance(m, h2, 5);
-    let h4 = append(m, h3, b"ghijklm");
+fn document_run(rt: &impl Print, m: &mut [u8]) -> io::Result<()> {
+    text(rt, b"-- the run of document 01\n")?;
+    let h0 = set_up(rt, operations::setup(m))?;
+    let h1 = append(rt, m, h0, b"abcdef")?;
+    let h2 = append(rt, m, h1, b"ghij")?;
+    let h3 = advance(rt, m, h2, 5)?;
+    let h4 = append(rt, m, h3, b"ghijklm")?;
     let mut out = [0u8; 8];
-    read(m, h4, 5, &mut out);
-    text(b"stored ");
+    read(rt, m, h4, 5, &mut out)?;
+    text(rt, b"stored ")?;
     if 82 <= m.len() {
-        text(&m[78..82]);
-        text(&m[72..75]);
+        text(rt, &m[78..82])?;
+        text(rt, &m[72..75])?;
     }
-    end();
-    let h5 = append(m, h4, b"no");
-    ask(m, h5);
-    opened(operations::start(m));
+    end(rt)?;
+    let h5 = append(rt, m, h4, b"no")?;
+    ask(rt, m, h5)?;
+    opened(rt, operations::start(m))?;
+    Ok(())
 }
 
 // What every ring must do, of whatever size.
-fn tour(m: &mut [u8]) {
-    text(b"-- a medium of");
-    number(m.len() as u64);
-    end();
-    let h0 = set_up(operations::setup(m));
-    let h1 = append(m, h0, b"x");
-    let h2 = append(m, h1, b"");
-    let h3 = advance(m, h2, h2.tail);
-    let h4 = append(m, h3, b"y");
-    let h5 = advance(m, h4, h4.tail);
-    let h6 = append(m, h5, b"zz");
+fn tour(rt: &impl Print, m: &mut [u8]) -> io::Result<()> {
+    text(rt, b"-- a medium of")?;
+    number(rt, m.len() as u64)?;
+    end(rt)?;
+    let h0 = set_up(rt, operations::setup(m))?;
+    let h1 = append(rt, m, h0, b"x")?;
+    let h2 = append(rt, m, h1, b"")?;
+    let h3 = advance(rt, m, h2, h2.tail)?;
+    let h4 = append(rt, m, h3, b"y")?;
+    let h5 = advance(rt, m, h4, h4.tail)?;
+    let h6 = append(rt, m, h5, b"zz")?;
     let mut out = [0u8; 1];
-    read(m, h6, h6.head, &mut out);
-    read(m, h6, LAST, &mut out);
-    ask(m, h6);
-    opened(operations::start(m));
-    ask(m, none());
+    read(rt, m, h6, h6.head, &mut out)?;
+    read(rt, m, h6, LAST, &mut out)?;
+    ask(rt, m, h6)?;
+    opened(rt, operations::start(m))?;
+    ask(rt, m, none())
 }
 
 fn big() -> [u8; 65609] {
     [0; 65609]
 }
 
-fn tour_big() {
+fn tour_big(rt: &impl Print) -> io::Result<()> {
     let mut m = big();
-    tour_in(&mut m);
+    tour_in(rt, &mut m)
 }
 
-fn tour_in(m: &mut [u8]) {
-    tour(m);
+fn tour_in(rt: &impl Print, m: &mut [u8]) -> io::Result<()> {
+    tour(rt, m)
 }
 
-fn tours() {
+fn tours(rt: &impl Print) -> io::Result<()> {
     let mut m1 = [0u8; 73];
-    tour(&mut m1);
+    tour(rt, &mut m1)?;
     let mut m2 = [0u8; 74];
-    tour(&mut m2);
+    tour(rt, &mut m2)?;
     let mut m10 = [0u8; 82];
-    tour(&mut m10);
-    tour_big();
+    tour(rt, &mut m10)?;
+    tour_big(rt)
 }
 
 // A first header of these numbers, with the checksum of these numbers.
@@ -318,72 +318,76 @@ fn craft(m: &mut [u8], head: u64, tail: u64, size: u64) {
 }
 
 // Media that the source's `start` takes for logs.
-fn not_logs() {
-    text(b"-- right checksums, and no log\n");
+fn not_logs(rt: &impl Print) -> io::Result<()> {
+    text(rt, b"-- right checksums, and no log\n")?;
     let mut m = [0u8; 73];
     craft(&mut m, 0, 0, 0);
-    opened(operations::start(&m));
+    opened(rt, operations::start(&m))?;
     craft(&mut m, 1, 0, 1);
-    opened(operations::start(&m));
+    opened(rt, operations::start(&m))?;
     craft(&mut m, 0, 1, 1);
-    opened(operations::start(&m));
+    opened(rt, operations::start(&m))?;
     craft(&mut m, 1, 1, 2);
-    opened(operations::start(&m));
+    opened(rt, operations::start(&m))?;
+    Ok(())
 }
 
 // Positions near the last one.
-fn last_positions() {
-    text(b"-- near the last position\n");
+fn last_positions(rt: &impl Print) -> io::Result<()> {
+    text(rt, b"-- near the last position\n")?;
     let mut m = [0u8; 82];
     craft(&mut m, LAST - 3, LAST - 2, 10);
-    let h0 = opened(operations::start(&m));
-    let h1 = append(&mut m, h0, b"abc");
-    let h2 = append(&mut m, h1, b"ab");
-    let h3 = append(&mut m, h2, b"c");
-    let h4 = append(&mut m, h3, b"");
+    let h0 = opened(rt, operations::start(&m))?;
+    let h1 = append(rt, &mut m, h0, b"abc")?;
+    let h2 = append(rt, &mut m, h1, b"ab")?;
+    let h3 = append(rt, &mut m, h2, b"c")?;
+    let h4 = append(rt, &mut m, h3, b"")?;
     let mut out = [0u8; 2];
-    read(&m, h4, LAST - 2, &mut out);
-    read(&m, h4, LAST, &mut out);
-    let h5 = advance(&mut m, h4, LAST);
-    ask(&m, h5);
+    read(rt, &m, h4, LAST - 2, &mut out)?;
+    read(rt, &m, h4, LAST, &mut out)?;
+    let h5 = advance(rt, &mut m, h4, LAST)?;
+    ask(rt, &m, h5)?;
     let mut n = [0u8; 73];
     craft(&mut n, LAST - 1, LAST - 1, 1);
-    let g = opened(operations::start(&n));
-    append(&mut n, g, b"ab");
+    let g = opened(rt, operations::start(&n))?;
+    append(rt, &mut n, g, b"ab")?;
+    Ok(())
 }
 
 // Lengths, damage, and a cut set-up.
-fn damage() {
-    text(b"-- short, damaged\n");
+fn damage(rt: &impl Print) -> io::Result<()> {
+    text(rt, b"-- short, damaged\n")?;
     let mut m = [0u8; 74];
-    opened(operations::start(&m[..0]));
-    opened(operations::start(&m[..71]));
-    opened(operations::start(&m[..72]));
-    opened(operations::start(&m));
+    opened(rt, operations::start(&m[..0]))?;
+    opened(rt, operations::start(&m[..71]))?;
+    opened(rt, operations::start(&m[..72]))?;
+    opened(rt, operations::start(&m))?;
     let mut short = [0u8; 72];
-    set_up(operations::setup(&mut short));
+    set_up(rt, operations::setup(&mut short))?;
     craft(&mut m, 0, 1, 2);
     carrier::put_word(&mut m, 16, 256);
-    opened(operations::start(&m));
+    opened(rt, operations::start(&m))?;
     carrier::put_word(&mut m, 16, 0);
-    opened(operations::start(&m));
+    opened(rt, operations::start(&m))?;
+    Ok(())
 }
 
 // Document 01's header of 28 flipped bits: the checksum is right, the test of head against tail refuses it.
-fn twenty_eight() {
-    let mut m = io::buffer();
+fn twenty_eight(rt: &impl Print) -> io::Result<()> {
+    let mut m = [0u8; 4096];
     craft(&mut m, 0, 100, 4024);
-    opened(operations::start(&m));
+    opened(rt, operations::start(&m))?;
     carrier::put_words(&mut m, 8, 0x8eb6_c6d6_48f4_39d5, 1679, 100, 4024);
-    opened(operations::start(&m));
+    opened(rt, operations::start(&m))?;
+    Ok(())
 }
 
-fn main() {
+fn main(rt: HostRuntime) -> io::Result<()> {
     let mut m = [0u8; 82];
-    document_run(&mut m);
-    tours();
-    not_logs();
-    last_positions();
-    damage();
-    twenty_eight();
+    document_run(&rt, &mut m)?;
+    tours(&rt)?;
+    not_logs(&rt)?;
+    last_positions(&rt)?;
+    damage(&rt)?;
+    twenty_eight(&rt)
 }

@@ -3,49 +3,56 @@
 #![tactic(auto)]
 
 use crc64::State;
-use libc::STDOUT_FILENO;
 use record_log::{Advanced, Appended, Got, Handle, Numbers, Opened, SetUp};
+use std::io;
 
-fn text(s: &[u8]) {
-    io::write_all(STDOUT_FILENO, s);
+fn text(rt: &impl Print, s: &[u8]) -> io::Result<()> {
+    rt.write_all(s)
 }
 
-fn letter(b: u8) {
+fn letter(rt: &impl Print, b: u8) -> io::Result<()> {
     let s = [b];
-    io::write_all(STDOUT_FILENO, &s);
+    rt.write_all(&s)
 }
 
-fn number(n: u64) {
-    text(b" ");
-    io::print_decimal(STDOUT_FILENO, n);
+fn number(rt: &impl Print, n: u64) -> io::Result<()> {
+    print!(rt; " {n}")
 }
 
 // A line: the operation, the answer with its number, the log's head and tail, and the checksum of the medium and of what was read.
-fn line(op: u8, answer: u8, n: u64, m: &[u8], h: Handle, read: &[u8]) {
-    letter(op);
-    text(b" ");
-    letter(answer);
-    number(n);
-    numbers(m, h);
-    text(b" ");
-    io::print_hex(STDOUT_FILENO, State::new().more(m).more(read).end(), 16);
-    text(b"\n");
+fn line(
+    rt: &impl Print,
+    op: u8,
+    answer: u8,
+    n: u64,
+    m: &[u8],
+    h: Handle,
+    read: &[u8],
+) -> io::Result<()> {
+    letter(rt, op)?;
+    text(rt, b" ")?;
+    letter(rt, answer)?;
+    number(rt, n)?;
+    numbers(rt, m, h)?;
+    let sum = State::new().more(m).more(read).end();
+    println!(rt; " {sum:016x}")
 }
 
-fn numbers(m: &[u8], h: Handle) {
+fn numbers(rt: &impl Print, m: &[u8], h: Handle) -> io::Result<()> {
     match operations::get_head_and_tail(h, m.len() as u64) {
         Numbers::Of {
             head,
             tail,
             capacity: _,
         } => {
-            number(head);
-            number(tail);
+            number(rt, head)?;
+            number(rt, tail)?;
         }
         Numbers::BadHandle => {
-            text(b" bad handle");
+            text(rt, b" bad handle")?;
         }
     }
+    Ok(())
 }
 
 fn none() -> Handle {
@@ -99,20 +106,20 @@ fn capacity(o: SetUp) -> u64 {
 }
 
 // `A` to `L`: set up the medium, and open it.
-fn set_up(m: &mut [u8], op: u8) -> Handle {
+fn set_up(rt: &impl Print, m: &mut [u8], op: u8) -> io::Result<Handle> {
     let n = capacity(operations::setup(m));
     let h = opened(m);
-    line(op, b'c', n, m, h, b"");
-    h
+    line(rt, op, b'c', n, m, h, b"")?;
+    Ok(h)
 }
 
-fn reopen(m: &[u8], op: u8) -> Handle {
+fn reopen(rt: &impl Print, m: &[u8], op: u8) -> io::Result<Handle> {
     let h = opened(m);
     let size = h.size;
     if 0 < size {
-        line(op, b'o', size - 1, m, h, b"");
+        line(rt, op, b'o', size - 1, m, h, b"")?;
     }
-    h
+    Ok(h)
 }
 
 // The bytes at the positions from `tail` on.
@@ -125,153 +132,171 @@ fn records(s: &mut [u8], tail: u64) {
     }
 }
 
-fn append(m: &mut [u8], h: Handle, op: u8, n: usize) -> Handle {
+fn append(rt: &impl Print, m: &mut [u8], h: Handle, op: u8, n: usize) -> io::Result<Handle> {
     let mut s = [0u8; 13];
     records(&mut s, h.tail);
-    append_part(m, h, op, n, &s)
+    append_part(rt, m, h, op, n, &s)
 }
 
-fn append_part(m: &mut [u8], h: Handle, op: u8, n: usize, s: &[u8]) -> Handle {
+fn append_part(
+    rt: &impl Print,
+    m: &mut [u8],
+    h: Handle,
+    op: u8,
+    n: usize,
+    s: &[u8],
+) -> io::Result<Handle> {
     if n <= s.len() {
         let o = operations::append(m, h, &s[0..n]);
-        return appended(m, h, op, o);
+        return appended(rt, m, h, op, o);
     }
-    h
+    Ok(h)
 }
 
-fn appended(m: &[u8], h: Handle, op: u8, o: Appended) -> Handle {
+fn appended(rt: &impl Print, m: &[u8], h: Handle, op: u8, o: Appended) -> io::Result<Handle> {
     match o {
         Appended::At { position, handle } => {
-            line(op, b'p', position, m, handle, b"");
-            return handle;
+            line(rt, op, b'p', position, m, handle, b"")?;
+            return Ok(handle);
         }
         Appended::NoRoom { room } => {
-            line(op, b'f', room, m, h, b"");
+            line(rt, op, b'f', room, m, h, b"")?;
         }
         Appended::BadHandle => {}
         Appended::ShortPlan { words: _ } => {}
     }
-    h
+    Ok(h)
 }
 
-fn advance(m: &mut [u8], h: Handle, op: u8, to: u64) -> Handle {
+fn advance(rt: &impl Print, m: &mut [u8], h: Handle, op: u8, to: u64) -> io::Result<Handle> {
     let o = operations::advance_head(m, h, to);
-    advanced(m, h, op, to, o)
+    advanced(rt, m, h, op, to, o)
 }
 
-fn advanced(m: &[u8], h: Handle, op: u8, to: u64, o: Advanced) -> Handle {
+fn advanced(
+    rt: &impl Print,
+    m: &[u8],
+    h: Handle,
+    op: u8,
+    to: u64,
+    o: Advanced,
+) -> io::Result<Handle> {
     match o {
         Advanced::To { handle } => {
-            line(op, b'h', to, m, handle, b"");
-            return handle;
+            line(rt, op, b'h', to, m, handle, b"")?;
+            return Ok(handle);
         }
         Advanced::BeforeHead { head: _ } => {}
         Advanced::BeyondTail { tail } => {
-            line(op, b'b', tail, m, h, b"");
+            line(rt, op, b'b', tail, m, h, b"")?;
         }
         Advanced::BadHandle => {}
         Advanced::ShortPlan { words: _ } => {}
     }
-    h
+    Ok(h)
 }
 
-fn read(m: &[u8], h: Handle, op: u8) {
+fn read(rt: &impl Print, m: &[u8], h: Handle, op: u8) -> io::Result<()> {
     let mut out = [0u8; 12];
-    read_all(m, h, op, &mut out);
+    read_all(rt, m, h, op, &mut out)
 }
 
-fn read_all(m: &[u8], h: Handle, op: u8, out: &mut [u8]) {
+fn read_all(rt: &impl Print, m: &[u8], h: Handle, op: u8, out: &mut [u8]) -> io::Result<()> {
     let head = h.head;
     let tail = h.tail;
     if head <= tail {
         if tail - head <= out.len() as u64 {
             let n = (tail - head) as usize;
-            read_into(m, h, op, &mut out[0..n]);
+            read_into(rt, m, h, op, &mut out[0..n])?;
         }
     }
+    Ok(())
 }
 
-fn read_into(m: &[u8], h: Handle, op: u8, out: &mut [u8]) {
+fn read_into(rt: &impl Print, m: &[u8], h: Handle, op: u8, out: &mut [u8]) -> io::Result<()> {
     match operations::read(m, h, h.head, out) {
         Got::Bytes => {
-            line(op, b'r', out.len() as u64, m, h, out);
+            line(rt, op, b'r', out.len() as u64, m, h, out)?;
         }
         Got::BeforeHead { head: _ } => {}
         Got::BeyondTail { tail: _ } => {}
         Got::BadHandle => {}
     }
+    Ok(())
 }
 
 // An operation on the log that is set up.
-fn operate(m: &mut [u8], h: Handle, op: u8) -> Handle {
+fn operate(rt: &impl Print, m: &mut [u8], h: Handle, op: u8) -> io::Result<Handle> {
     if b'0' <= op {
         if op <= b'=' {
-            return append(m, h, op, (op - b'0') as usize);
+            return append(rt, m, h, op, (op - b'0') as usize);
         }
     }
     if op == b'h' {
-        return advance(m, h, op, h.head);
+        return advance(rt, m, h, op, h.head);
     }
     if op == b'n' {
-        return advance(m, h, op, std::num::wrapping_add_u64(h.head, 1));
+        return advance(rt, m, h, op, h.head.wrapping_add(1));
     }
     if op == b't' {
-        return advance(m, h, op, h.tail);
+        return advance(rt, m, h, op, h.tail);
     }
     if op == b'o' {
-        return reopen(m, op);
+        return reopen(rt, m, op);
     }
-    read(m, h, op);
-    h
+    read(rt, m, h, op)?;
+    Ok(h)
 }
 
 // An operation on the first bytes of m: 72 and a ring.
-fn on_ring(m: &mut [u8], h: Handle, op: u8) -> Handle {
+fn on_ring(rt: &impl Print, m: &mut [u8], h: Handle, op: u8) -> io::Result<Handle> {
     let size = h.size;
     if size <= 12 {
         let n = (72 + size) as usize;
         if n <= m.len() {
-            return operate(&mut m[0..n], h, op);
+            return operate(rt, &mut m[0..n], h, op);
         }
     }
-    h
+    Ok(h)
 }
 
-fn new_medium(m: &mut [u8], op: u8) -> Handle {
+fn new_medium(rt: &impl Print, m: &mut [u8], op: u8) -> io::Result<Handle> {
     background(m);
-    set_up(m, op)
+    set_up(rt, m, op)
 }
 
 // A new medium of so many bytes.
-fn begin(m: &mut [u8], op: u8, n: usize) -> Handle {
+fn begin(rt: &impl Print, m: &mut [u8], op: u8, n: usize) -> io::Result<Handle> {
     if n <= m.len() {
-        return new_medium(&mut m[0..n], op);
+        return new_medium(rt, &mut m[0..n], op);
     }
-    none()
+    Ok(none())
 }
 
-fn one(m: &mut [u8], h: Handle, op: u8) -> Handle {
+fn one(rt: &impl Print, m: &mut [u8], h: Handle, op: u8) -> io::Result<Handle> {
     if b'A' <= op {
         if op <= b'L' {
-            return begin(m, op, 73 + (op - b'A') as usize);
+            return begin(rt, m, op, 73 + (op - b'A') as usize);
         }
     }
-    on_ring(m, h, op)
+    on_ring(rt, m, h, op)
 }
 
-fn replay(m: &mut [u8], ops: &[u8]) {
+fn replay(rt: &impl Print, m: &mut [u8], ops: &[u8]) -> io::Result<()> {
     let mut h = none();
     let mut i = 0;
     while i < ops.len() {
-        h = one(m, h, ops[i]);
+        h = one(rt, m, h, ops[i])?;
         i += 1;
     }
+    Ok(())
 }
 
-fn main() {
+fn main(rt: HostRuntime) -> io::Result<()> {
     let mut m = [0u8; 84];
     replay(
+        &rt,
         &mut m,
         b"A200200o2nrro00tBno1001t31oto010tnnooC02or10001onont00n0t2t1n0rD1t035tt422010251o1n2t20h0005nrEh2nn42t12h2oh0to00no02t4nn0t3462nrtFn10o6tnt3r03tth512t3nh7o417nt00h71h621toGn0noth21oto281rot4n008ot24t046002n0rt51rhtt23Hh40rtr2nhnn5ootor2onn60t333t1n813n9to4rr4n6h0nrh2nI4n8ntt023tr6tohn3tth300tt3tt4no6r456r1r2322t4t2:74tot63Jt42to1nh1t342n78ht2753h1r453;t53trt132t3trt322o4tt11r5;thn5oK:r44625tohrn70021:1n;42tt3023oto34n0r4tttr1<tr71nr02h710r9ttr0t<hL0ntorohnr411r8t1n;r2nno=o5rt<nh8n3o;3:=36r=nr235oh28=03ntr<=nto32481or",
-    );
+    )
 }
