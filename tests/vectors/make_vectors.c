@@ -1,6 +1,6 @@
 // Writes what the program crc64_vectors must write, computed by liblzma's lzma_crc64, which is no part of this project:
 //
-//     cc tests/vectors/make_vectors.c -llzma -o target/make_vectors && target/make_vectors > crates/crc64_vectors/stdout
+//     cc tests/vectors/make_vectors.c -llzma -o build/make_vectors && build/make_vectors > crates/crc64_vectors/stdout
 //
 // (Debian's package liblzma-dev; made with version 5.4.1.) lzma_crc64(bytes, count, before) goes on from the checksum `before`, and is called
 // so for the lines in parts.
