@@ -21,8 +21,8 @@ test: ## the gate: proofs, must-fail edits, programs, every other test; last lin
 test-long: ## the gate with all that its tests can try: under an hour more
 	@tests/gate --long
 
-check: ## quick: prove what changed since the last time
-	@rt all check
+check: ## quick: prove what changed since the last time and run the programs
+	@rt all test
 
 figures: ## lines of each crate, and what each must-fail edit rules out
 	@tools/figures

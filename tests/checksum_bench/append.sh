@@ -30,9 +30,9 @@ awk '
     }
     /^}/ { inside = 0 }
     !inside' $from/module.ll >$to/module.ll
-clang=$(dirname "$(dirname "$(rt doc)")")/on/$(uname -m)/toolchain/bin/clang
+clang=$(dirname "$(rt doc)")/toolchain/bin/clang
 # shellcheck disable=SC2046
-(cd $to && "$clang" $(sed "s/--target=[^ ]* -march=[^ ]*/--target=$(uname -m)-unknown-linux-gnu/; s/ module\.bc / module.ll /" ../words))
+(cd $to && "$clang" $(sed "s/--target=[^ ]*/--target=$(uname -m)-unknown-linux-gnu/; s/ --sysroot=[^ ]*//; s/ -march=[^ ]*//; s/ module\.bc / module.ll /" ../words))
 rm -f $to/libblackboxlog.a
 "${clang%/*}/llvm-ar" rcs $to/libblackboxlog.a $to/module.o
 BENCH_LIB=$to bench/run >$to/before

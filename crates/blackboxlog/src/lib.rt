@@ -1,4 +1,4 @@
-// The boundary: what C and Rust link. Each function is a thin wrapper; none makes more than one write, so that the caller can flush between
+// The boundary: what C and Rust link, by the exports of the crate blackboxlog_c. Each function is a thin wrapper; none makes more than one write, so that the caller can flush between
 // two; none has a `requires`. include/blackboxlog.h says in words what each does.
 #![tactic(auto)]
 
