@@ -16,15 +16,9 @@ awk '
         print "  store i64 %a1, ptr %second, align 8"
         print "  %third = getelementptr i8, ptr %bytes, i64 16"
         print "  store i64 %a2, ptr %third, align 8"
-        print "  %slice = alloca [16 x i8], align 8"
-        print "  store ptr %bytes, ptr %slice, align 8"
-        print "  %length = getelementptr i8, ptr %slice, i64 8"
-        print "  store i64 24, ptr %length, align 8"
-        print "  %new = alloca [8 x i8], align 8"
-        print "  %more = alloca [8 x i8], align 8"
-        print "  call void @\"crc64::State::new\"(ptr %new)"
-        print "  call void @\"crc64::State::more\"(ptr %more, ptr %new, ptr %slice)"
-        print "  %sum = call i64 @\"crc64::State::end\"(ptr %more)"
+        print "  %new = call i64 @\"crc64::State::new\"()"
+        print "  %more = call i64 @\"crc64::State::more\"(i64 %new, ptr %bytes, i64 24)"
+        print "  %sum = call i64 @\"crc64::State::end\"(i64 %more)"
         print "  ret i64 %sum"
         inside = 1
     }
