@@ -11,7 +11,7 @@ ghost use Rattle.record_log.specs.Log.{append, advance};
 ghost use Rattle.record_log.specs.Opening.{open_of};
 ghost use Rattle.record_log.specs.Operations.{plan_of, append_of, advance_of, read_of, read_into, ask_of, set_up_of, set_up_plan};
 ghost use Rattle.operations.specs.Planning.{plan_words, if_room, Planned};
-ghost use Rattle.blackboxlog.specs.Replies.{side, said, plan_said, done, kept, handle_of, if_known, bad_handle, opened_reply, set_up_reply, appended_reply, advanced_reply, got_reply, numbers_reply, step_reply, bytes_put, Boundary};
+ghost use Rattle.blackboxlog.specs.Replies.{kept, handle_of, if_known, bad_handle, opened_reply, set_up_reply, appended_reply, advanced_reply, got_reply, numbers_reply, step_reply, bytes_put};
 ghost use Rattle.record_log.specs.declared.SetUp.{SetUp};
 ghost use Rattle.record_log.specs.declared.Appended.{Appended};
 ghost use Rattle.record_log.specs.declared.Advanced.{Advanced};
