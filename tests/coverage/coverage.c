@@ -101,7 +101,7 @@ static void near_buffers(void) {
     }
 }
 
-// Long records, to places of every remainder by 16: they are copied from the next multiple of 16 on. And the same of reads, whole and over the
+// Long records, to places of every remainder by 16. And the same of reads, whole and over the
 // ring's end, from low and from high positions.
 static void long_records(void) {
     static uint8_t memory[2048], bytes[800];
@@ -115,15 +115,15 @@ static void long_records(void) {
     }
 }
 
-// Where 256 bytes are copied at a time, the other way is for buffers that overlap. A caller must not lend such; the code copies them byte by byte
+// A copy takes another way for buffers that overlap. A caller must not lend such; the code copies them byte by byte
 // all the same, from the first on.
 static void overlapping(void) {
     static uint8_t is[2048], should[2048];
-    for (size_t by = 1; by < 40; by += 15) {
-        for (size_t count = 250; count < 530; count += 67) {
+    for (size_t by = 1; by < 100; by += 15) {
+        for (size_t count = 2; count < 530; count += count < 40 ? 1 : 33) {
             const uint64_t plan[] = {1, 0, 0, count, 0, 0};
-            for (unsigned way = 0; way < 4; way++) {
-                // a read has one byte before the ring's end, and the others behind it
+            for (unsigned way = 0; way < 5; way++) {
+                // one read has one byte before the ring's end, and the others behind it; one is from a high position
                 const size_t from = way < 2 ? 0 : 72, to = from + by + (way == 3);
                 for (size_t k = 0; k < sizeof is; k++) {
                     is[k] = should[k] = (uint8_t)(k * 7 + k / 256);
@@ -139,7 +139,7 @@ static void overlapping(void) {
                 } else if (way == 1) {
                     stepped_make_step(is + by, 1024, plan, 6, is, count, 0);
                 } else {
-                    const uint64_t head = way == 2 ? 0 : 599;
+                    const uint64_t head = way == 2 ? 0 : way == 3 ? 599 : (UINT64_C(1) << 40) / 600 * 600;
                     stepped_read(is, 72 + 600, (bbl_handle){0, head, head + count, 600}, head, is + 72 + by, count);
                 }
                 if (memcmp(is, should, sizeof is) != 0) {

@@ -1,8 +1,9 @@
-// What C and Rust link: an export for each function of the crate `blackboxlog` that they call, which calls it and promises the same.
+// What C and Rust link: an export for each function of the crate `blackboxlog` that they call, which calls it and promises the same. (Twice,
+// since C needs exports, and a crate is a library or a static library, and not both.)
 // include/blackboxlog.h says in words what each does.
 #![tactic(auto)]
 
-ghost use Rattle.std.specs.Prelude.{◌≡◌, List, [], ℕ};
+ghost use Rattle.std.specs.Prelude.{◌≡◌, List, [], ℕ, Err};
 ghost use lib.ListN.{length};
 ghost use Rattle.crc64.specs.Crc64.{crc_of};
 ghost use Rattle.device.specs.Word.{le};
@@ -12,9 +13,7 @@ ghost use Rattle.record_log.specs.Opening.{open_of};
 ghost use Rattle.record_log.specs.Operations.{plan_of, append_of, advance_of, read_of, read_into, ask_of, set_up_of, set_up_plan};
 ghost use Rattle.operations.specs.Planning.{plan_words, if_room, Planned};
 ghost use Rattle.blackboxlog.specs.Replies.{kept, handle_of, if_known, bad_handle, opened_reply, set_up_reply, appended_reply, advanced_reply, got_reply, numbers_reply, step_reply, bytes_put};
-ghost use Rattle.record_log.specs.declared.SetUp.{SetUp};
-ghost use Rattle.record_log.specs.declared.Appended.{Appended};
-ghost use Rattle.record_log.specs.declared.Advanced.{Advanced};
+ghost use Rattle.record_log.specs.declared.Refused.{Refused};
 
 use blackboxlog::{Kept, Reply, Stepped};
 
@@ -37,7 +36,7 @@ pub extern "C" fn bbl_open(medium: &[u8]) -> Reply
 // A plan to set up the medium.
 #[unsafe(no_mangle)]
 pub extern "C" fn bbl_plan_setup(medium: &[u8], plan: &mut [u64]) -> Reply
-    ensures { (result ≡ set_up_reply (if_room plan.old (SetUp.ShortPlan plan_words) (set_up_of (length medium.now))) result.steps) × ((b : List ℕ) → Planned plan.old b (if_room plan.old [] (set_up_plan (length medium.now))) result.steps plan.new) }
+    ensures { (result ≡ set_up_reply (if_room plan.old (Err (Refused.ShortPlan plan_words)) (set_up_of (length medium.now))) result.steps) × ((b : List ℕ) → Planned plan.old b (if_room plan.old [] (set_up_plan (length medium.now))) result.steps plan.new) }
 {
     blackboxlog::bbl_plan_setup(medium, plan)
 }
@@ -54,7 +53,7 @@ pub extern "C" fn bbl_plan_append_of(
     length: u64,
     plan: &mut [u64],
 ) -> Reply
-    ensures { (b : List ℕ) → lib.ListN.length b ≡ length → (result ≡ if_known (kept live head tail size) (appended_reply (if_room plan.old (Appended.ShortPlan plan_words) (append_of (handle_of (kept live head tail size)) b (lib.ListN.length medium.now))) result.steps) bad_handle) × Planned plan.old b (if_known (kept live head tail size) (if_room plan.old [] (plan_of (handle_of (kept live head tail size)) (append b) medium.now)) []) result.steps plan.new }
+    ensures { (b : List ℕ) → lib.ListN.length b ≡ length → (result ≡ if_known (kept live head tail size) (appended_reply (if_room plan.old (Err (Refused.ShortPlan plan_words)) (append_of (handle_of (kept live head tail size)) b (lib.ListN.length medium.now))) result.steps) bad_handle) × Planned plan.old b (if_known (kept live head tail size) (if_room plan.old [] (plan_of (handle_of (kept live head tail size)) (append b) medium.now)) []) result.steps plan.new }
 {
     blackboxlog::bbl_plan_append_of(medium, live, head, tail, size, length, plan)
 }
@@ -67,7 +66,7 @@ pub extern "C" fn bbl_plan_advance(
     position: u64,
     plan: &mut [u64],
 ) -> Reply
-    ensures { (b : List ℕ) → (result ≡ if_known handle (advanced_reply (if_room plan.old (Advanced.ShortPlan plan_words) (advance_of (handle_of handle) position (length medium.now))) result.steps) bad_handle) × Planned plan.old b (if_known handle (if_room plan.old [] (plan_of (handle_of handle) (advance position) medium.now)) []) result.steps plan.new }
+    ensures { (b : List ℕ) → (result ≡ if_known handle (advanced_reply (if_room plan.old (Err (Refused.ShortPlan plan_words)) (advance_of (handle_of handle) position (length medium.now))) result.steps) bad_handle) × Planned plan.old b (if_known handle (if_room plan.old [] (plan_of (handle_of handle) (advance position) medium.now)) []) result.steps plan.new }
 {
     blackboxlog::bbl_plan_advance(medium, handle, position, plan)
 }
@@ -80,8 +79,8 @@ pub extern "C" fn bbl_step(medium: &mut [u8], plan: &[u64], bytes: &[u8], i: u64
     blackboxlog::bbl_step(medium, plan, bytes, i)
 }
 
-// Puts the bytes from a to b at a place: what `bbl_step` does where the step's kind is 1. How many bytes were put: none if they are not there or do
-// not fit.
+// Puts the bytes from a to b at a place: what `bbl_step` does where the step's kind is 1. How many bytes were put: none if they are not
+// there or do not fit.
 #[unsafe(no_mangle)]
 pub extern "C" fn bbl_put_bytes(medium: &mut [u8], at: u64, bytes: &[u8], a: u64, b: u64) -> u64
     ensures { (result ≡ bytes_put (carried medium.old (part_at at a b bytes.now))) × (medium.new ≡ leaves medium.old (part_at at a b bytes.now)) }

@@ -5,7 +5,7 @@ use mathlib.Core.Logic.{◌⊎◌, inl, inr, ⊎_elim}
 use mathlib.Core.List.{List, [], ◌∷◌}
 use Prim.Native.Nat.{ℕ}
 use Rattle.device.specs.Device.{Device, still, seen, after, Left, Safe}
-use Rattle.device.specs.Found.{found}
+use Rattle.std.specs.Prelude.{Some}
 use Rattle.crash.specs.System.{System, recover, Now, on, off, Event, answered, cut_in, cut, cut_reopening, reopened, Runs, Means, Shows, Survives}
 
 pub record Right (S : System) : Type 1 where
@@ -14,21 +14,21 @@ pub record Right (S : System) : Type 1 where
   pub shows : {h : S.Handle} {d : Device} {s : S.State} → Live h d s → S.view h (seen d) ≡ s
   -- an operation, cut at any moment, leaves the state before or after it; answered, it leaves a live handle
   pub in_op : {h : S.Handle} {d : Device} {s : S.State} (o : S.Op) → Live h d s
-      → Safe (λ m. (recover S m ≡ found (S.idle s)) ⊎ (recover S m ≡ found (S.idle (S.does o s)))) d (S.plan h o (seen d))
+      → Safe (λ m. (recover S m ≡ Some (S.idle s)) ⊎ (recover S m ≡ Some (S.idle (S.does o s)))) d (S.plan h o (seen d))
   pub op_done : {h : S.Handle} {d : Device} {s : S.State} (o : S.Op) → Live h d s
       → Live (S.next h o) (after d (S.plan h o (seen d))) (S.does o s)
   -- between two operations a cut loses nothing that outlives it
-  pub between : {h : S.Handle} {d : Device} {s : S.State} (m : List ℕ) → Live h d s → Left d m → recover S m ≡ found (S.idle s)
+  pub between : {h : S.Handle} {d : Device} {s : S.State} (m : List ℕ) → Live h d s → Left d m → recover S m ≡ Some (S.idle s)
   -- opening, cut at any moment, leaves the same state; answered, it leaves a live handle
-  pub in_opening : (m : List ℕ) (s : S.State) → recover S m ≡ found s → Safe (λ m'. recover S m' ≡ found s) (still m) (S.reopen m)
-  pub open_done : (m : List ℕ) (s : S.State) (h : S.Handle) → recover S m ≡ found s → S.opened m ≡ found h
+  pub in_opening : (m : List ℕ) (s : S.State) → recover S m ≡ Some s → Safe (λ m'. recover S m' ≡ Some s) (still m) (S.reopen m)
+  pub open_done : (m : List ℕ) (s : S.State) (h : S.Handle) → recover S m ≡ Some s → S.opened m ≡ Some h
       → Live h (after (still m) (S.reopen m)) s
 
 module _ (S : System) (R : Right S) where
   -- what the events start from: a live handle, or a medium on which recovery finds the state
   abbrev From : Now S → S.State → Type 0
   From (on h d) s = R.Live h d s
-  From (off m) s = recover S m ≡ found s
+  From (off m) s = recover S m ≡ Some s
 
   from_shows : (x : Now S) (s : S.State) → From x s → Shows S x s
   from_shows (on h d) s f = R.shows f
@@ -44,8 +44,8 @@ module _ (S : System) (R : Right S) where
   go (answered o ∷ es) (off m) s y f r = absurd r
   go (cut_in o ∷ es) (on h d) s y f r =
       ⊎_elim
-      (λ (e : recover S r.1 ≡ found (S.idle s)). let g = go es (off r.1) (S.idle s) y e r.3 in (g.0, inl g.1, g.2))
-      (λ (e : recover S r.1 ≡ found (S.idle (S.does o s))).
+      (λ (e : recover S r.1 ≡ Some (S.idle s)). let g = go es (off r.1) (S.idle s) y e r.3 in (g.0, inl g.1, g.2))
+      (λ (e : recover S r.1 ≡ Some (S.idle (S.does o s))).
       let g = go es (off r.1) (S.idle (S.does o s)) y e r.3 in
       (g.0, inr g.1, g.2))
       (R.in_op o f r.0 r.1 r.2)
@@ -61,6 +61,6 @@ module _ (S : System) (R : Right S) where
   survives m s es y f r = let g = go es (off m) s y f r in (g.0, g.1, from_shows y g.0 g.2)
 
   -- a handle that events reach is live
-  pub reaches : (m : List ℕ) (s : S.State) (es : List (Event S)) (h : S.Handle) (d : Device) → recover S m ≡ found s
+  pub reaches : (m : List ℕ) (s : S.State) (es : List (Event S)) (h : S.Handle) (d : Device) → recover S m ≡ Some s
       → Runs S (off m) es (on h d) → (t : S.State) × Means S s es t × R.Live h d t
   reaches m s es h d f r = go es (off m) s (on h d) f r

@@ -43,9 +43,6 @@ register_byte r b t h e =
     ∙ ap (run poly ones64) (sym (bits_of_append t (b ∷ [])))
     ∙ sym (register_of (t ++ b ∷ []))
 
-pub bytes_none : (r : ℕ) (s t : List ℕ) → r ≡ bit_xor (crc_of t) ones64 → r ≡ bit_xor (crc_of (t ++ take 0 s)) ones64
-bytes_none r s t e = e ∙ ap (λ (u : List ℕ). bit_xor (crc_of u) ones64) (sym (append-nil t))
-
 pub bytes_more : (r : ℕ) (s t : List ℕ) (i : ℕ) → i < length s
     → r ≡ bit_xor (crc_of ((t ++ take i s) ++ get_or s i 0 ∷ [])) ones64 → r ≡ bit_xor (crc_of (t ++ take (i + 1) s)) ones64
 bytes_more r s t i h e =

@@ -10,27 +10,23 @@ ghost use Rattle.crc64.specs.Examples.{Examples};
 // The polynomial x^64 + .. less its leading 1, with its bits reflected.
 const POLYNOMIAL: u64 = 0xc96c_5795_d787_0f42;
 
-// What is added before the first bit and after the last.
-const ONES: u64 = 0xffff_ffff_ffff_ffff;
-
 // One byte more. The register holds the checksum of the bytes so far, with the ones taken off again.
 fn feed(register: u64, byte: u8) -> u64
-    ensures { (t : List ℕ) → register ≡ bit_xor (crc_of t) 0xffff_ffff_ffff_ffff → result ≡ bit_xor (crc_of (t ++ byte ∷ [])) 0xffff_ffff_ffff_ffff }
+    ensures { (t : List ℕ) → register ≡ bit_xor (crc_of t) u64.MAX → result ≡ bit_xor (crc_of (t ++ byte ∷ [])) u64.MAX }
 {
-    let mut x = register ^ (byte as u64);
-    let mut i: usize = 0;
-    while i < 8 {
-        if x % 2 == 1 {
-            x = (x / 2) ^ POLYNOMIAL;
+    let mut x = register ^ u64::from(byte);
+    for _ in 0..u8::BITS {
+        x = if x % 2 == 1 {
+            (x / 2) ^ POLYNOMIAL
         } else {
-            x = x / 2;
-        }
-        i += 1;
+            x / 2
+        };
     }
     x
 }
 
-// The checksum of bytes that come in parts: `sum` is that of the bytes so far.
+// The checksum of bytes that come in parts: `sum` is that of the bytes so far. Clauses range over all bytes with that sum; a ghost field could
+// not hold them, as it states facts of fields.
 #[derive(Clone, Copy)]
 pub struct State {
     pub sum: u64,
@@ -48,15 +44,12 @@ impl State {
     pub fn more(self, s: &[u8]) -> State
         ensures { (t : List ℕ) → self.sum ≡ crc_of t → result.sum ≡ crc_of (t ++ s.now) }
     {
-        let mut register = self.sum ^ ONES;
-        let mut i = 0;
-        while i < s.len() {
-            register = feed(register, s[i]);
-            i += 1;
+        let mut register = self.sum ^ u64::MAX;
+        for &byte in s {
+            register = feed(register, byte);
         }
-        State {
-            sum: register ^ ONES,
-        }
+        let sum = register ^ u64::MAX;
+        State { sum }
     }
 
     // The checksum of all the bytes.

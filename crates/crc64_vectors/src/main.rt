@@ -5,148 +5,106 @@
 use crc64::State;
 use std::io;
 
-fn line(rt: &impl Print, name: &[u8], value: u64) -> io::Result<()> {
-    rt.write_all(name)?;
-    println!(rt; " {value:016x}")
+// Two forms of line, each written in several places.
+fn line(rt: &impl Print, name: &str, sum: u64) -> io::Result<()> {
+    println!(rt; "{name} {sum:016x}")
 }
 
-fn counted(rt: &impl Print, name: &[u8], count: u64, value: u64) -> io::Result<()> {
-    rt.write_all(name)?;
-    print!(rt; " {count}")?;
-    line(rt, b"", value)
+fn counted(rt: &impl Print, name: &str, count: usize, sum: u64) -> io::Result<()> {
+    println!(rt; "{name} {count} {sum:016x}")
 }
 
 // The fast form has the same contract. That the compiled code agrees too is looked at here: where it does not, a line says so.
 fn agree(rt: &impl Print, plain: u64, fast: u64) -> io::Result<()> {
     if plain != fast {
-        line(rt, b"the fast form differs:", fast)?;
+        line(rt, "the fast form differs:", fast)?;
     }
     Ok(())
 }
 
-fn whole(rt: &impl Print, name: &[u8], s: &[u8]) -> io::Result<()> {
-    let sum = crc64::crc64(s);
-    line(rt, name, sum)?;
-    agree(rt, sum, crc64_fast::crc64(s))
-}
-
 fn texts(rt: &impl Print) -> io::Result<()> {
-    whole(rt, b"empty", b"")?;
-    whole(rt, b"check", b"123456789")?;
-    whole(rt, b"text 0", b"0")?;
-    whole(rt, b"text 1", b"1")?;
-    whole(rt, b"a", b"a")?;
-    whole(rt, b"alphabet", b"abcdefghijklmnopqrstuvwxyz")?;
-    whole(rt, b"fox", b"The quick brown fox jumps over the lazy dog")
+    let texts = [
+        ("empty", ""),
+        ("check", "123456789"),
+        ("text 0", "0"),
+        ("text 1", "1"),
+        ("a", "a"),
+        ("alphabet", "abcdefghijklmnopqrstuvwxyz"),
+        ("fox", "The quick brown fox jumps over the lazy dog"),
+    ];
+    for (name, text) in texts {
+        let sum = crc64::crc64(text.as_bytes());
+        line(rt, name, sum)?;
+        agree(rt, sum, crc64_fast::crc64(text.as_bytes()))?;
+    }
+    Ok(())
 }
 
-// A log's header: head 0, the tail, and the size by its two lowest bytes.
-fn header(rt: &impl Print, name: &[u8], tail: u8, low: u8, high: u8) -> io::Result<()> {
-    let mut h = [0u8; 24];
-    h[8] = tail;
-    h[16] = low;
-    h[17] = high;
-    whole(rt, name, &h)?;
-    let size = (low as u64) + 256 * (high as u64);
-    agree(
-        rt,
-        crc64::crc64(&h),
-        crc64_fast::crc64_words(0, tail as u64, size),
-    )
-}
-
+// Headers of a log: head, tail and size.
 fn headers(rt: &impl Print) -> io::Result<()> {
-    header(rt, b"header 0 0 4024", 0, 0xb8, 0x0f)?;
-    header(rt, b"header 0 100 4024", 100, 0xb8, 0x0f)?;
-    header(rt, b"header 0 0 1", 0, 1, 0)
+    for [head, tail, size] in [[0u64, 0, 4024], [0, 100, 4024], [0, 0, 1]] {
+        let words = [head, tail, size].map(u64::to_le_bytes);
+        let h = words.as_flattened();
+        let sum = crc64::crc64(h);
+        println!(rt; "header {head} {tail} {size} {sum:016x}")?;
+        agree(rt, sum, crc64_fast::crc64(h))?;
+        agree(rt, sum, crc64_fast::crc64_words(head, tail, size))?;
+    }
+    Ok(())
 }
 
-// The first n bytes of s.
-fn first(rt: &impl Print, name: &[u8], s: &[u8], n: usize) -> io::Result<()> {
-    if n <= s.len() {
-        let sum = crc64::crc64(&s[0..n]);
-        counted(rt, name, n as u64, sum)?;
-        agree(rt, sum, crc64_fast::crc64(&s[0..n]))?;
+// The first n bytes of s, for each n of `lengths`.
+fn firsts(rt: &impl Print, name: &str, s: &[u8], lengths: &[usize]) -> io::Result<()> {
+    for &n in lengths {
+        if let Some(part) = s.get(..n) {
+            let sum = crc64::crc64(part);
+            counted(rt, name, n, sum)?;
+            agree(rt, sum, crc64_fast::crc64(part))?;
+        }
     }
     Ok(())
 }
 
 fn repeats(rt: &impl Print) -> io::Result<()> {
-    let zeros = [0u8; 4096];
-    first(rt, b"zeros", &zeros, 1)?;
-    first(rt, b"zeros", &zeros, 8)?;
-    first(rt, b"zeros", &zeros, 24)?;
-    first(rt, b"zeros", &zeros, 4096)?;
-    counted(
-        rt,
-        b"ones",
-        8,
-        crc64::crc64(b"\xff\xff\xff\xff\xff\xff\xff\xff"),
-    )
+    firsts(rt, "zeros", &[0; 4096], &[1, 8, 24, 4096])?;
+    counted(rt, "ones", 8, crc64::crc64(&[0xff; 8]))
 }
 
 fn fill(s: &mut [u8]) {
-    let mut x: u64 = 1;
-    let mut i = 0;
-    while i < s.len() {
-        x = (x * 1103515245 + 12345) % 2147483648;
-        s[i] = (x / 65536 % 256) as u8;
-        i += 1;
+    let mut x: u32 = 1;
+    for byte in s {
+        x = ((u64::from(x) * 1103515245 + 12345) % 2147483648) as u32;
+        *byte = (x / 65536 % 256) as u8;
     }
 }
 
-// A mebibyte is made, lent and used in three functions.
+// Where an array this long is made in the function that lends it, the check ends with no verdict.
 fn mebibyte() -> [u8; 1048576] {
     [0; 1048576]
 }
 
 fn patterns(rt: &impl Print) -> io::Result<()> {
     let mut bytes = mebibyte();
-    patterns_in(rt, &mut bytes)
+    fill(&mut bytes);
+    firsts(rt, "pattern", &bytes, &[7, 8, 9, 63, 64, 65, 4087, 1048576])
 }
 
-fn patterns_in(rt: &impl Print, bytes: &mut [u8]) -> io::Result<()> {
-    fill(bytes);
-    first(rt, b"pattern", bytes, 7)?;
-    first(rt, b"pattern", bytes, 8)?;
-    first(rt, b"pattern", bytes, 9)?;
-    first(rt, b"pattern", bytes, 63)?;
-    first(rt, b"pattern", bytes, 64)?;
-    first(rt, b"pattern", bytes, 65)?;
-    first(rt, b"pattern", bytes, 4087)?;
-    first(rt, b"pattern", bytes, 1048576)
-}
-
-// The checksum of s in three parts, which meet at i and at j.
-fn in_parts(s: &[u8], i: usize, j: usize) -> u64 {
-    if i <= j {
-        if j <= s.len() {
-            return State::new()
-                .more(&s[0..i])
-                .more(&s[i..j])
-                .more(&s[j..])
-                .end();
-        }
-    }
-    0
+// The checksum of s in three parts, which meet at i and at j, where those are there.
+fn in_parts(s: &[u8], i: usize, j: usize) -> Option<u64> {
+    let state = State::new()
+        .more(s.get(..i)?)
+        .more(s.get(i..j)?)
+        .more(s.get(j..)?);
+    Some(state.end())
 }
 
 // How many of the splits i, j, written as the two digits of numbers below `end`, give the checksum of the whole.
-fn splits(s: &[u8], end: usize) -> u64 {
-    let all = crc64::crc64(s);
-    let mut n = 0;
-    let mut k = 0;
-    while k < end {
-        if in_parts(s, k / 10, k % 10) == all {
-            n += 1;
-        }
-        k += 1;
-    }
-    n
-}
-
-fn parts(rt: &impl Print, name: &[u8], s: &[u8], end: usize) -> io::Result<()> {
-    counted(rt, name, splits(s, end), crc64::crc64(s))
+fn parts(rt: &impl Print, name: &str, s: &[u8], end: usize) -> io::Result<()> {
+    let sum = crc64::crc64(s);
+    let splits = (0..end)
+        .filter(|k| in_parts(s, k / 10, k % 10) == Some(sum))
+        .count();
+    counted(rt, name, splits, sum)
 }
 
 // Two checksums are made at the same time, and one is taken up twice.
@@ -156,9 +114,9 @@ fn interleaved(rt: &impl Print) -> io::Result<()> {
     let c = a.more(b"The quick brown fox jumps over the lazy dog");
     let check = a.more(b"56789");
     let fox = b.more(b"brown fox jumps over the lazy dog");
-    line(rt, b"interleaved check", check.end())?;
-    line(rt, b"interleaved fox", fox.end())?;
-    line(rt, b"taken up again", c.end())
+    line(rt, "interleaved check", check.end())?;
+    line(rt, "interleaved fox", fox.end())?;
+    line(rt, "taken up again", c.end())
 }
 
 fn main(rt: HostRuntime) -> io::Result<()> {
@@ -166,7 +124,7 @@ fn main(rt: HostRuntime) -> io::Result<()> {
     headers(&rt)?;
     repeats(&rt)?;
     patterns(&rt)?;
-    parts(&rt, b"in two parts", b"123456789", 10)?;
-    parts(&rt, b"in three parts", b"123456789", 100)?;
+    parts(&rt, "in two parts", b"123456789", 10)?;
+    parts(&rt, "in three parts", b"123456789", 100)?;
     interleaved(&rt)
 }

@@ -1,4 +1,3 @@
 pub mod Device
-pub mod Found
 pub mod Remarks
 pub mod Word

@@ -3,300 +3,142 @@
 #![tactic(auto)]
 
 use crc64::State;
-use record_log::{Advanced, Appended, Got, Handle, Numbers, Opened, SetUp};
+use record_log::{Appended, Handle, Numbers, Refused, SetUp};
 use std::io;
 
-fn text(rt: &impl Print, s: &[u8]) -> io::Result<()> {
-    rt.write_all(s)
+// The operations. Each line sets up a new medium.
+const SAMPLE: [&str; 12] = [
+    "A200200o2nrro00t",
+    "Bno1001t31oto010tnnoo",
+    "C02or10001onont00n0t2t1n0r",
+    "D1t035tt422010251o1n2t20h0005nr",
+    "Eh2nn42t12h2oh0to00no02t4nn0t3462nrt",
+    "Fn10o6tnt3r03tth512t3nh7o417nt00h71h621to",
+    "Gn0noth21oto281rot4n008ot24t046002n0rt51rhtt23",
+    "Hh40rtr2nhnn5ootor2onn60t333t1n813n9to4rr4n6h0nrh2n",
+    "I4n8ntt023tr6tohn3tth300tt3tt4no6r456r1r2322t4t2:74tot63",
+    "Jt42to1nh1t342n78ht2753h1r453;t53trt132t3trt322o4tt11r5;thn5o",
+    "K:r44625tohrn70021:1n;42tt3023oto34n0r4tttr1<tr71nr02h710r9ttr0t<h",
+    "L0ntorohnr411r8t1n;r2nno=o5rt<nh8n3o;3:=36r=nr235oh28=03ntr<=nto32481or",
+];
+
+// The log that is set up, and where the lines about it go. (`log_run` has one of its own: its lines are others.)
+#[derive(Drop)]
+struct Log<'a, P: Print> {
+    rt: &'a P,
+    m: &'a mut [u8],
+    handle: Handle,
 }
 
-fn letter(rt: &impl Print, b: u8) -> io::Result<()> {
-    let s = [b];
-    rt.write_all(&s)
-}
-
-fn number(rt: &impl Print, n: u64) -> io::Result<()> {
-    print!(rt; " {n}")
-}
-
-// A line: the operation, the answer with its number, the log's head and tail, and the checksum of the medium and of what was read.
-fn line(
-    rt: &impl Print,
-    op: u8,
-    answer: u8,
-    n: u64,
-    m: &[u8],
-    h: Handle,
-    read: &[u8],
-) -> io::Result<()> {
-    letter(rt, op)?;
-    text(rt, b" ")?;
-    letter(rt, answer)?;
-    number(rt, n)?;
-    numbers(rt, m, h)?;
-    let sum = State::new().more(m).more(read).end();
-    println!(rt; " {sum:016x}")
-}
-
-fn numbers(rt: &impl Print, m: &[u8], h: Handle) -> io::Result<()> {
-    match operations::get_head_and_tail(h, m.len() as u64) {
-        Numbers::Of {
-            head,
-            tail,
-            capacity: _,
-        } => {
-            number(rt, head)?;
-            number(rt, tail)?;
-        }
-        Numbers::BadHandle => {
-            text(rt, b" bad handle")?;
+impl<P: Print> Log<'_, P> {
+    // An answer with its number, the log's head and tail, and the checksum of the medium and of what was read.
+    fn answer(&self, letter: char, n: u64, read: &[u8]) -> io::Result<()> {
+        let Log { rt, m, handle } = self;
+        let sum = State::new().more(m).more(read).end();
+        match operations::get_head_and_tail(*handle, m.len() as u64) {
+            Ok(Numbers { head, tail, .. }) => println!(rt; "{letter} {n} {head} {tail} {sum:016x}"),
+            Err(e) => println!(rt; "{letter} {n} {e} {sum:016x}"),
         }
     }
-    Ok(())
-}
 
-fn none() -> Handle {
-    Handle {
-        second: false,
-        head: 0,
-        tail: 0,
-        size: 0,
-    }
-}
-
-// What stands on a medium before it is set up: byte number i is i.
-fn background(m: &mut [u8]) {
-    let mut i = 0;
-    while i < m.len() {
-        m[i] = (i % 256) as u8;
-        i += 1;
-    }
-}
-
-fn opened(m: &[u8]) -> Handle {
-    match operations::start(m) {
-        Opened::Log { handle } => handle,
-        Opened::TooShort { required: _ } => none(),
-        Opened::BadSelector { found: _ } => none(),
-        Opened::BadChecksum {
-            second: _,
-            stored: _,
-            computed: _,
-        } => none(),
-        Opened::SizeZero => none(),
-        Opened::HeadPastTail { head: _, tail: _ } => none(),
-        Opened::TooFull {
-            head: _,
-            tail: _,
-            size: _,
-        } => none(),
-        Opened::WrongSize { size: _, ring: _ } => none(),
-    }
-}
-
-fn capacity(o: SetUp) -> u64 {
-    match o {
-        SetUp::Ready {
-            capacity,
-            handle: _,
-        } => capacity,
-        SetUp::TooShort { required } => required,
-        SetUp::ShortPlan { words } => words,
-    }
-}
-
-// `A` to `L`: set up the medium, and open it.
-fn set_up(rt: &impl Print, m: &mut [u8], op: u8) -> io::Result<Handle> {
-    let n = capacity(operations::setup(m));
-    let h = opened(m);
-    line(rt, op, b'c', n, m, h, b"")?;
-    Ok(h)
-}
-
-fn reopen(rt: &impl Print, m: &[u8], op: u8) -> io::Result<Handle> {
-    let h = opened(m);
-    let size = h.size;
-    if 0 < size {
-        line(rt, op, b'o', size - 1, m, h, b"")?;
-    }
-    Ok(h)
-}
-
-// The bytes at the positions from `tail` on.
-fn records(s: &mut [u8], tail: u64) {
-    let from = tail % 256;
-    let mut i = 0;
-    while i < s.len() {
-        s[i] = ((7 * (from + (i % 256) as u64) + 1) % 256) as u8;
-        i += 1;
-    }
-}
-
-fn append(rt: &impl Print, m: &mut [u8], h: Handle, op: u8, n: usize) -> io::Result<Handle> {
-    let mut s = [0u8; 13];
-    records(&mut s, h.tail);
-    append_part(rt, m, h, op, n, &s)
-}
-
-fn append_part(
-    rt: &impl Print,
-    m: &mut [u8],
-    h: Handle,
-    op: u8,
-    n: usize,
-    s: &[u8],
-) -> io::Result<Handle> {
-    if n <= s.len() {
-        let o = operations::append(m, h, &s[0..n]);
-        return appended(rt, m, h, op, o);
-    }
-    Ok(h)
-}
-
-fn appended(rt: &impl Print, m: &[u8], h: Handle, op: u8, o: Appended) -> io::Result<Handle> {
-    match o {
-        Appended::At { position, handle } => {
-            line(rt, op, b'p', position, m, handle, b"")?;
-            return Ok(handle);
-        }
-        Appended::NoRoom { room } => {
-            line(rt, op, b'f', room, m, h, b"")?;
-        }
-        Appended::BadHandle => {}
-        Appended::ShortPlan { words: _ } => {}
-    }
-    Ok(h)
-}
-
-fn advance(rt: &impl Print, m: &mut [u8], h: Handle, op: u8, to: u64) -> io::Result<Handle> {
-    let o = operations::advance_head(m, h, to);
-    advanced(rt, m, h, op, to, o)
-}
-
-fn advanced(
-    rt: &impl Print,
-    m: &[u8],
-    h: Handle,
-    op: u8,
-    to: u64,
-    o: Advanced,
-) -> io::Result<Handle> {
-    match o {
-        Advanced::To { handle } => {
-            line(rt, op, b'h', to, m, handle, b"")?;
-            return Ok(handle);
-        }
-        Advanced::BeforeHead { head: _ } => {}
-        Advanced::BeyondTail { tail } => {
-            line(rt, op, b'b', tail, m, h, b"")?;
-        }
-        Advanced::BadHandle => {}
-        Advanced::ShortPlan { words: _ } => {}
-    }
-    Ok(h)
-}
-
-fn read(rt: &impl Print, m: &[u8], h: Handle, op: u8) -> io::Result<()> {
-    let mut out = [0u8; 12];
-    read_all(rt, m, h, op, &mut out)
-}
-
-fn read_all(rt: &impl Print, m: &[u8], h: Handle, op: u8, out: &mut [u8]) -> io::Result<()> {
-    let head = h.head;
-    let tail = h.tail;
-    if head <= tail {
-        if tail - head <= out.len() as u64 {
-            let n = (tail - head) as usize;
-            read_into(rt, m, h, op, &mut out[0..n])?;
+    fn reopen(&mut self) -> io::Result<()> {
+        match operations::start(self.m) {
+            Ok(handle) => {
+                self.handle = handle;
+                self.answer('o', handle.size.saturating_sub(1), &[])
+            }
+            Err(e) => println!(self.rt; "{e}"),
         }
     }
-    Ok(())
-}
 
-fn read_into(rt: &impl Print, m: &[u8], h: Handle, op: u8, out: &mut [u8]) -> io::Result<()> {
-    match operations::read(m, h, h.head, out) {
-        Got::Bytes => {
-            line(rt, op, b'r', out.len() as u64, m, h, out)?;
+    // Appends n bytes: the one at position p is 7p + 1.
+    fn append(&mut self, n: usize) -> io::Result<()> {
+        let mut record = [0; 13];
+        let Some(record) = record.get_mut(..n) else {
+            return Ok(());
+        };
+        for (byte, p) in record.iter_mut().zip(self.handle.tail..) {
+            *byte = ((p % 256 * 7 + 1) % 256) as u8;
         }
-        Got::BeforeHead { head: _ } => {}
-        Got::BeyondTail { tail: _ } => {}
-        Got::BadHandle => {}
-    }
-    Ok(())
-}
-
-// An operation on the log that is set up.
-fn operate(rt: &impl Print, m: &mut [u8], h: Handle, op: u8) -> io::Result<Handle> {
-    if b'0' <= op {
-        if op <= b'=' {
-            return append(rt, m, h, op, (op - b'0') as usize);
+        match operations::append(self.m, self.handle, record) {
+            Ok(Appended { position, handle }) => {
+                self.handle = handle;
+                self.answer('p', position, &[])
+            }
+            Err(Refused::NoRoom { room }) => self.answer('f', room, &[]),
+            Err(e) => println!(self.rt; "{e}"),
         }
     }
-    if op == b'h' {
-        return advance(rt, m, h, op, h.head);
-    }
-    if op == b'n' {
-        return advance(rt, m, h, op, h.head.wrapping_add(1));
-    }
-    if op == b't' {
-        return advance(rt, m, h, op, h.tail);
-    }
-    if op == b'o' {
-        return reopen(rt, m, op);
-    }
-    read(rt, m, h, op)?;
-    Ok(h)
-}
 
-// An operation on the first bytes of m: 72 and a ring.
-fn on_ring(rt: &impl Print, m: &mut [u8], h: Handle, op: u8) -> io::Result<Handle> {
-    let size = h.size;
-    if size <= 12 {
-        let n = (72 + size) as usize;
-        if n <= m.len() {
-            return operate(rt, &mut m[0..n], h, op);
+    fn advance(&mut self, to: u64) -> io::Result<()> {
+        match operations::advance_head(self.m, self.handle, to) {
+            Ok(handle) => {
+                self.handle = handle;
+                self.answer('h', to, &[])
+            }
+            Err(Refused::BeyondTail { tail }) => self.answer('b', tail, &[]),
+            Err(e) => println!(self.rt; "{e}"),
         }
     }
-    Ok(h)
-}
 
-fn new_medium(rt: &impl Print, m: &mut [u8], op: u8) -> io::Result<Handle> {
-    background(m);
-    set_up(rt, m, op)
-}
-
-// A new medium of so many bytes.
-fn begin(rt: &impl Print, m: &mut [u8], op: u8, n: usize) -> io::Result<Handle> {
-    if n <= m.len() {
-        return new_medium(rt, &mut m[0..n], op);
-    }
-    Ok(none())
-}
-
-fn one(rt: &impl Print, m: &mut [u8], h: Handle, op: u8) -> io::Result<Handle> {
-    if b'A' <= op {
-        if op <= b'L' {
-            return begin(rt, m, op, 73 + (op - b'A') as usize);
+    // Reads from the head to the tail.
+    fn read(&self) -> io::Result<()> {
+        let Handle { head, tail, .. } = self.handle;
+        let n = tail.saturating_sub(head);
+        let mut out = [0; 12];
+        let Some(out) = out.get_mut(..n as usize) else {
+            return Ok(());
+        };
+        match operations::read(self.m, self.handle, head, out) {
+            Ok(()) => self.answer('r', n, out),
+            Err(e) => println!(self.rt; "{e}"),
         }
     }
-    on_ring(rt, m, h, op)
+
+    fn operate(&mut self, op: u8) -> io::Result<()> {
+        let Handle { head, tail, .. } = self.handle;
+        match op {
+            b'0'..=b'=' => self.append((op - b'0') as usize),
+            b'h' => self.advance(head),
+            b'n' => self.advance(head.wrapping_add(1)),
+            b't' => self.advance(tail),
+            b'o' => self.reopen(),
+            b'r' => self.read(),
+            _ => Ok(()),
+        }
+    }
 }
 
-fn replay(rt: &impl Print, m: &mut [u8], ops: &[u8]) -> io::Result<()> {
-    let mut h = none();
-    let mut i = 0;
-    while i < ops.len() {
-        h = one(rt, m, h, ops[i])?;
-        i += 1;
+// Operations on a new medium, whose ring the first sets up.
+fn replay(rt: &impl Print, ops: &[u8]) -> io::Result<()> {
+    let [first @ b'A'..=b'L', rest @ ..] = ops else {
+        return Ok(());
+    };
+    // byte number i is i
+    let mut m = [0; 84];
+    for (byte, i) in m.iter_mut().zip(0u8..) {
+        *byte = i;
+    }
+    let m = &mut m[..73 + (first - b'A') as usize];
+    let Ok(SetUp { capacity, .. }) = operations::setup(m) else {
+        return Ok(());
+    };
+    let Ok(handle) = operations::start(m) else {
+        return Ok(());
+    };
+    let mut log = Log { rt, m, handle };
+    print!(rt; "{} ", *first as char)?;
+    log.answer('c', capacity, &[])?;
+    for &op in rest {
+        print!(rt; "{} ", op as char)?;
+        log.operate(op)?;
     }
     Ok(())
 }
 
 fn main(rt: HostRuntime) -> io::Result<()> {
-    let mut m = [0u8; 84];
-    replay(
-        &rt,
-        &mut m,
-        b"A200200o2nrro00tBno1001t31oto010tnnooC02or10001onont00n0t2t1n0rD1t035tt422010251o1n2t20h0005nrEh2nn42t12h2oh0to00no02t4nn0t3462nrtFn10o6tnt3r03tth512t3nh7o417nt00h71h621toGn0noth21oto281rot4n008ot24t046002n0rt51rhtt23Hh40rtr2nhnn5ootor2onn60t333t1n813n9to4rr4n6h0nrh2nI4n8ntt023tr6tohn3tth300tt3tt4no6r456r1r2322t4t2:74tot63Jt42to1nh1t342n78ht2753h1r453;t53trt132t3trt322o4tt11r5;thn5oK:r44625tohrn70021:1n;42tt3023oto34n0r4tttr1<tr71nr02h710r9ttr0t<hL0ntorohnr411r8t1n;r2nno=o5rt<nh8n3o;3:=36r=nr235oh28=03ntr<=nto32481or",
-    )
+    for ops in SAMPLE {
+        replay(&rt, ops.as_bytes())?;
+    }
+    Ok(())
 }

@@ -1,18 +1,25 @@
 -- `blackboxlog::bbl_plan_advance`: it plans with the numbers that stand in the other header. Assumes nothing.
-use mathlib.Core.Path.{refl}
+use mathlib.Core.Path.{refl, sym, ◌∙◌}
 use Rattle.std.proofs.Common.{rules}
-use Rattle.blackboxlog.specs.Replies.{advanced_reply}
 use Rattle.operations.proofs.Answers.{none_planned}
-use Rattle.blackboxlog.proofs.Replied.{unknown, is_known, replied, replied_plan, advance_steps}
+use Rattle.blackboxlog.proofs.Replied.{unknown, is_known, no_steps}
 use Rattle.blackboxlog.proofs.bbl_plan_advance.Goals as goal
 
-pub returns-then-handle-gt1 : goal.returns-then-handle-gt1
-returns-then-handle-gt1 c b = rw (unknown c.args.handle c.if-handle-gt1.true, c.said.ensures) (refl, none_planned _ b)
+pub returns-in_default : goal.returns-in_default
+returns-in_default c b =
+    let k = unknown c.args.handle _ (sym c.in_default.is ∙ c.try_from.ensures) in
+    rw (k, c.from.ensures) (refl, none_planned _ b)
 
-pub returns : goal.returns
-returns c b =
-    let e = c.advanced_reply.ensures in
-    let p = c.plan_advance-p.ensures in
-    let q = p.1 c.args.medium.now b refl (λ i. search rules) c.other_in-other.ensures in
-    rw (is_known c.args.handle c.if-handle-gt1.false, ← c.handle_of-h.ensures)
-    (replied advanced_reply advance_steps _ _ _ _ e p.0, replied_plan advanced_reply advance_steps _ _ _ _ e p.0 _ _ _ _ q)
+pub returns-in-Ok-plan_advance : goal.returns-in-Ok-plan_advance
+returns-in-Ok-plan_advance c b =
+    let k = is_known c.args.handle c.in-Ok.h (sym c.in-Ok.is ∙ c.try_from.ensures) in
+    let f = c.of.ensures in
+    let q = rw c.in-Ok-plan_advance.is at c.plan_advance.ensures in
+    rw (k.0, ← k.1, c.done.ensures, ← (rw (f.handle, ← f.true_of_it.len) at q.0)) (refl, rw f.handle at (q.1 c.args.medium.now b (λ i. search rules) f.true_of_it))
+
+pub returns-in-Err : goal.returns-in-Err
+returns-in-Err c b =
+    let k = is_known c.args.handle c.in-Ok.h (sym c.in-Ok.is ∙ c.try_from.ensures) in
+    let f = c.of.ensures in
+    let q = rw c.in-Err.is at c.plan_advance.ensures in
+    rw (k.0, ← k.1, c.from-in-Err.ensures, ← (rw (f.handle, ← f.true_of_it.len) at q.0), no_steps c.in-Err.e) (refl, rw f.handle at (q.1 c.args.medium.now b (λ i. search rules) f.true_of_it))

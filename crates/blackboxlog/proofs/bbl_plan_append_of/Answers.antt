@@ -1,21 +1,29 @@
 -- `blackboxlog::bbl_plan_append_of`: it plans with the numbers that stand in the other header. Assumes nothing.
-use mathlib.Core.Path.{refl}
+use mathlib.Core.Path.{refl, sym, ◌∙◌}
 use Rattle.std.proofs.Common.{rules}
-use Rattle.blackboxlog.specs.Replies.{kept, appended_reply}
 use Rattle.operations.proofs.Answers.{none_planned}
-use Rattle.blackboxlog.proofs.Replied.{unknown, is_known, replied, replied_plan, append_steps}
+use Rattle.blackboxlog.specs.Replies.{kept}
+use Rattle.blackboxlog.proofs.Replied.{unknown, is_known, no_steps}
 use Rattle.blackboxlog.proofs.bbl_plan_append_of.Goals as goal
 
-pub returns-then-handle-gt1 : goal.returns-then-handle-gt1
-returns-then-handle-gt1 c b l =
+pub returns-in_default : goal.returns-in_default
+returns-in_default c b l =
     let a = c.args in
-    rw (unknown (kept a.live a.head a.tail a.size) c.if-handle-gt1.true, c.said.ensures) (refl, none_planned _ b)
+    let k = unknown (kept a.live a.head a.tail a.size) _ (sym c.in_default.is ∙ c.try_from.ensures) in
+    rw (k, c.from.ensures) (refl, none_planned _ b)
 
-pub returns : goal.returns
-returns c b l =
+pub returns-in-Ok-plan_append : goal.returns-in-Ok-plan_append
+returns-in-Ok-plan_append c b l =
     let a = c.args in
-    let e = c.appended_reply.ensures in
-    let p = c.plan_append-p.ensures b l in
-    let q = p.1 a.medium.now refl (λ i. search rules) c.other_in-other.ensures in
-    rw (is_known (kept a.live a.head a.tail a.size) c.if-handle-gt1.false, ← c.handle_of-h.ensures)
-    (replied appended_reply append_steps _ _ _ _ e p.0, replied_plan appended_reply append_steps _ _ _ _ e p.0 _ _ _ _ q)
+    let k = is_known (kept a.live a.head a.tail a.size) c.in-Ok.h (sym c.in-Ok.is ∙ c.try_from.ensures) in
+    let f = c.of.ensures in
+    let q = rw c.in-Ok-plan_append.is at (c.plan_append.ensures b l) in
+    rw (k.0, ← k.1, c.done.ensures, ← (rw (f.handle, ← f.true_of_it.len) at q.0)) (refl, rw f.handle at (q.1 a.medium.now (λ i. search rules) f.true_of_it))
+
+pub returns-in-Err : goal.returns-in-Err
+returns-in-Err c b l =
+    let a = c.args in
+    let k = is_known (kept a.live a.head a.tail a.size) c.in-Ok.h (sym c.in-Ok.is ∙ c.try_from.ensures) in
+    let f = c.of.ensures in
+    let q = rw c.in-Err.is at (c.plan_append.ensures b l) in
+    rw (k.0, ← k.1, c.from-in-Err.ensures, ← (rw (f.handle, ← f.true_of_it.len) at q.0), no_steps c.in-Err.e) (refl, rw f.handle at (q.1 a.medium.now (λ i. search rules) f.true_of_it))

@@ -1,10 +1,14 @@
--- `blackboxlog::bbl_plan_setup`: the reply names the number of steps. Assumes nothing.
-use Rattle.blackboxlog.specs.Replies.{set_up_reply}
-use Rattle.blackboxlog.proofs.Replied.{replied, replied_plan, set_up_steps}
+-- `blackboxlog::bbl_plan_setup`: the reply is made from the answer and names the number of steps. Assumes nothing.
+use mathlib.Core.Path.{refl}
+use Rattle.blackboxlog.proofs.Replied.{no_steps}
 use Rattle.blackboxlog.proofs.bbl_plan_setup.Goals as goal
 
-pub returns : goal.returns
-returns c =
-    let p = c.plan_setup-p.ensures in
-    let e = c.set_up_reply.ensures in
-    (replied set_up_reply set_up_steps _ _ _ _ e p.0, λ b. replied_plan set_up_reply set_up_steps _ _ _ _ e p.0 _ _ _ _ (p.1 b))
+pub returns-in-Ok : goal.returns-in-Ok
+returns-in-Ok c =
+    let q = rw c.in-Ok.is at c.plan_setup.ensures in
+    rw (c.done.ensures, ← q.0) (refl, q.1)
+
+pub returns-in-Err : goal.returns-in-Err
+returns-in-Err c =
+    let q = rw c.in-Err.is at c.plan_setup.ensures in
+    rw (c.from.ensures, ← q.0, no_steps c.in-Err.e) (refl, q.1)

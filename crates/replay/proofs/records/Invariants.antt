@@ -1,6 +1,0 @@
--- `records` is safe and ends. The measure is what is left of the slice. Assumes nothing.
-use Rattle.std.proofs.Common.{length, ◌-◌}
-use Rattle.replay.proofs.records.Given as goal
-
-abbrev pub decreases-loop-i : goal.decreases-loop-i
-decreases-loop-i l = length l.initial.s - l.i
