@@ -101,8 +101,7 @@ static void near_buffers(void) {
     }
 }
 
-// Long records, to places of every remainder by 16. And the same of reads, whole and over the
-// ring's end, from low and from high positions.
+// Long records, to places of every remainder by 16; and the same of reads, whole and over the ring's end, from low and from high positions.
 static void long_records(void) {
     static uint8_t memory[2048], bytes[800];
     for (uint64_t at = 0; at < 16; at++) {
@@ -115,8 +114,8 @@ static void long_records(void) {
     }
 }
 
-// A copy takes another way for buffers that overlap. A caller must not lend such; the code copies them byte by byte
-// all the same, from the first on.
+// A copy takes another way for buffers that overlap. A caller must not lend such; the code copies them byte by byte all the same, from the
+// first on.
 static void overlapping(void) {
     static uint8_t is[2048], should[2048];
     for (size_t by = 1; by < 100; by += 15) {

@@ -1,27 +1,18 @@
 -- A handle that comes back across the boundary is the log's, or not known; and a refusal has no steps. Assumes nothing.
 use mathlib.Core.Path.{◌≡◌, refl}
-use mathlib.Core.Bool.{Bool, true, false, cond}
-use Prim.Native.Nat.{ℕ}
-use native.Mathlib.Omega.{arith}
-use Rattle.std.specs.Prelude.{Result, Ok, Err}
+use mathlib.Core.Bool.{true, false}
+use Rattle.std.specs.Prelude.{Ok, Err}
 use Rattle.record_log.specs.declared.Handle.{Handle}
 use Rattle.record_log.specs.declared.Refused.{Refused}
+use Rattle.operations.proofs.Checks.{passed, failed}
 use Rattle.blackboxlog.specs.Replies.{known, handle_of, known_handle, refused_reply}
 use Rattle.blackboxlog.specs.declared.Kept.{Kept}
 
 pub unknown : (k : Kept) (e : Refused) → Err e ≡ known_handle k → known k ≡ false
-unknown k e = go (known k)
-  where
-    go : (t : Bool) → ◌≡◌ {A = Result Handle Refused} (Err e) (cond t (Ok (handle_of k)) (Err Refused.BadHandle)) → t ≡ false
-    go true q = absurd (let z : ◌≡◌ {A = ℕ} 0 1 = cc in omega arith)
-    go false q = refl
+unknown k e q = (failed (handle_of k) (known k) q).0
 
 pub is_known : (k : Kept) (h : Handle) → Ok h ≡ known_handle k → (known k ≡ true) × (h ≡ handle_of k)
-is_known k h = go (known k)
-  where
-    go : (t : Bool) → ◌≡◌ {A = Result Handle Refused} (Ok h) (cond t (Ok (handle_of k)) (Err Refused.BadHandle)) → (t ≡ true) × (h ≡ handle_of k)
-    go true q = (refl, cc)
-    go false q = absurd (let z : ◌≡◌ {A = ℕ} 0 1 = cc in omega arith)
+is_known k h q = passed (handle_of k) Refused.BadHandle (known k) q
 
 -- a refusal plans no step
 pub no_steps : (e : Refused) → (refused_reply e).steps ≡ 0

@@ -41,6 +41,8 @@ impl From<Handle> for Kept {
     }
 }
 
+// Below, four functions take a handle by `let .. else`, and six make a reply of an answer or a refusal by `match`: functions that answer a Result,
+// one for each, would be longer than that.
 impl TryFrom<Kept> for Handle {
     type Error = Refused;
 
@@ -72,7 +74,7 @@ pub struct Reply {
     pub handle: Kept,
 }
 
-// A code and two numbers. (A function and no conversion: there is no type of such three.)
+// A code, which is C's number, and two numbers. (A function and no conversion: there is no type of such three.)
 fn said(code: u64, number: u64, other: u64) -> Reply
     ensures { result ≡ said code number other }
 {

@@ -41,7 +41,7 @@ pub fn crc64(s: &[u8]) -> u64
     more(State::new(), s).end()
 }
 
-// The checksum of 24 bytes that come as three words, the lowest byte of each first: the content of a header.
+// The checksum of 24 bytes that come as three words, the lowest byte of each first: the content of a header. (Words of any content, so no struct.)
 pub fn crc64_words(a: u64, b: u64, c: u64) -> u64
     ensures { result ≡ crc_of (le a ++ (le b ++ le c)) }
 {

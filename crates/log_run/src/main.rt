@@ -10,7 +10,7 @@ const FIRST: u64 = 0xa328_42d1_9001_605e;
 
 const LAST: u64 = u64::MAX;
 
-// A log that is open. Each operation writes a line; where it is refused, the handle stays.
+// A log that is open. Each operation writes a line; where it is refused, the handle stays. (`replay` has one of its own, which writes other lines.)
 #[derive(Drop)]
 struct Log<'a, P: Print> {
     rt: &'a P,
@@ -139,7 +139,7 @@ fn tour(rt: &impl Print, m: &mut [u8]) -> io::Result<()> {
     Log { rt, m, handle }.ask()
 }
 
-// A first header of these numbers, and the selector that says that it is live.
+// A first header of these numbers, and the selector that says that it is live. (Numbers that are right or not, in the order of the format.)
 fn header(m: &mut [u8], sum: u64, head: u64, tail: u64, size: u64) {
     carrier::put_numbers(m, 0, [FIRST]);
     carrier::put_numbers(m, 8, [sum, head, tail, size]);

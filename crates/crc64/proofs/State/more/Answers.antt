@@ -1,4 +1,5 @@
--- `State::more`: a turn takes up one byte; and all of them. Assumes nothing.
+-- `State::more`: a turn takes up one byte; and all of them. (Answers that the check needs once the limits of its search are halved.)
+-- Assumes nothing.
 use mathlib.Core.Path.{ap}
 use Rattle.std.proofs.Common.{ℕ, List, ◌++◌, take}
 use Rattle.std.specs.Int.Bits.{bit_xor}
