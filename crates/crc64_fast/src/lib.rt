@@ -8,13 +8,13 @@ ghost use Rattle.crc64_tables.specs.Leaves.{leaves};
 
 use crc64::State;
 
-// What the division leaves of a word, by its eleven parts: where x was added to the register, the register after the word.
+// What the division leaves of a word, by its parts: where x was added to the register, the register after the word.
 fn pass(x: u64) -> u64
     ensures { result ≡ leaves 64 x }
 {
     let mut sum = 0;
     let mut rest = x;
-    for i in 0..11 {
+    for i in 0..crc64_tables::PARTS {
         sum ^= crc64_tables::part(i, rest);
         rest /= 64;
     }

@@ -5,12 +5,15 @@
 ghost use Rattle.std.specs.Prelude.{◌≡◌, ◌-◌, ◌*◌, ◌%◌, ◌<◌};
 ghost use Rattle.crc64_tables.specs.Leaves.{leaves};
 
+// So many parts are 64 bits.
+pub const PARTS: usize = 11;
+
 // What is left of the part i, the six lowest bits of x. The part 10 is the last and has four bits; of one behind it nothing is left.
 pub fn part(i: usize, x: u64) -> u64
     ensures six { result ≡ leaves (64 - 6 * i) (x % 64) }
     ensures four { i ≡ 10 → result ≡ leaves 4 (x % 16) }
 {
-    if i < 11 {
+    if i < PARTS {
         TABLES[i][(x % 64) as usize]
     } else {
         0
@@ -18,7 +21,7 @@ pub fn part(i: usize, x: u64) -> u64
 }
 
 // A table for each part. The last has its 16 entries four times over, so that all parts are looked up in the same way.
-static TABLES: [[u64; 64]; 11] = [
+static TABLES: [[u64; 64]; PARTS] = [
     [
         0,
         0xdabe_95af_c787_5f40,
