@@ -194,10 +194,6 @@ fn damage(rt: &impl Print) -> io::Result<()> {
         Log::open(rt, &mut m[..n])?;
     }
     Log::set_up(rt, &mut [0; 72])?;
-    // a slice for the plan that is one number too short
-    if let Err(e) = operations::plan_setup(82, &mut [0; 53]) {
-        println!(rt; "set up {e}")?;
-    }
     // the checksum of head 0, beside another head and beside 0
     let sum = crc64_fast::crc64_words(0, 1, 2);
     header(&mut m, sum, 256, 1, 2);
