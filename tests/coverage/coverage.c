@@ -101,17 +101,20 @@ static void near_buffers(void) {
     }
 }
 
-// Long records, to places of every remainder by 16; and the same of reads, whole and over the ring's end, from low and from high positions.
+// Long records, to places of every remainder by 16: they are copied from the next multiple of 16 on. And the same of reads, whole and over the
+// ring's end, from low and from high positions.
 static void long_records(void) {
     static uint8_t memory[2048], bytes[800];
     for (uint64_t at = 0; at < 16; at++) {
-        for (size_t count = 505; count < 800; count += 49) {
+        for (size_t count = 520; count < 800; count += 49) {
             const uint64_t plan[] = {1, at, 0, count, 0, 0}, high = (UINT64_C(1) << 40) / 900 * 900;
             both_steps(memory, sizeof memory, plan, bytes, count);
             stepped_read(memory, 72 + 900, (bbl_handle){0, at, at + count, 900}, at, bytes, count);
             stepped_read(memory, 72 + 900, (bbl_handle){0, high - at, high - at + count, 900}, high - at, bytes, count);
         }
     }
+    // a byte is left behind the blocks of 256
+    stepped_read(memory, 72 + 900, (bbl_handle){0, 0, 513, 900}, 0, bytes, 513);
 }
 
 // A copy takes another way for buffers that overlap. A caller must not lend such; the code copies them byte by byte all the same, from the
@@ -119,7 +122,7 @@ static void long_records(void) {
 static void overlapping(void) {
     static uint8_t is[2048], should[2048];
     for (size_t by = 1; by < 100; by += 15) {
-        for (size_t count = 2; count < 530; count += count < 40 ? 1 : 33) {
+        for (size_t count = 2; count < 600; count += count < 40 ? 1 : 17) {
             const uint64_t plan[] = {1, 0, 0, count, 0, 0};
             for (unsigned way = 0; way < 5; way++) {
                 // one read has one byte before the ring's end, and the others behind it; one is from a high position
