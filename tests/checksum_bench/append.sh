@@ -1,14 +1,15 @@
 #!/bin/sh
 # append.sh: what an append costs with the header's checksum by the plain form, crc64::crc64, and by the fast one, as `make bench` measures it
-# where the processor is not x86-64. The plain form is put into the module that tools/native keeps: there operations::sum_of stores its three
-# words as 24 bytes and does what crc64::crc64 does with them. That module is not proved; the benchmark holds its bytes against C by hand.
+# where the processor is not x86-64. The plain form is put into the module that tools/native keeps: there crc64_fast::crc64_words, which nothing
+# calls but operations::sum_of, stores its three words as 24 bytes and does what crc64::crc64 does with them. That module is not proved; the
+# benchmark holds its bytes against C by hand.
 set -eu
 cd "$(dirname "$0")/../.."
 tools/native
 from=build/native to=build/native/plain
 mkdir -p $to
 awk '
-    /^define .*@"operations::sum_of"\(/ {
+    /^define .*@"crc64_fast::crc64_words"\(/ {
         print
         print "  %bytes = alloca [24 x i8], align 8"
         print "  store i64 %a0, ptr %bytes, align 8"

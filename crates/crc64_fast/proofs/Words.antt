@@ -30,7 +30,7 @@ use Rattle.crc64_tables.proofs.Tables.{bits_same, leaves_falls, leaves_none, par
 
 -- ---- the bits of a word
 
-bits_low : (n x : ℕ) → bits (n * 8) x ≡ bits_of (low n x)
+pub bits_low : (n x : ℕ) → bits (n * 8) x ≡ bits_of (low n x)
 unfolding bits bits_of low
 bits_low zero x =
     let e : zero * 8 ≡ 0 = omega arith in
@@ -59,7 +59,7 @@ pass_all i s r g h f =
 
 -- ---- a word more
 
-word_more : (r w : ℕ) (t : List ℕ) → w < 2 ^ 64 → r ≡ bit_xor (crc_of t) ones64
+pub word_more : (r w : ℕ) (t : List ℕ) → w < 2 ^ 64 → r ≡ bit_xor (crc_of t) ones64
     → leaves 64 (bit_xor r w) ≡ bit_xor (crc_of (t ++ low 8 w)) ones64
 word_more r w t h e =
     let hr : r < 2 ^ 64 = subst (λ (x : ℕ). x < 2 ^ 64) (sym e) (xor_lt 64 (crc_of t) ones64 (crc_of_lt t) ones64_lt) in
