@@ -42,6 +42,8 @@ pub fn crc64(s: &[u8]) -> u64
 }
 
 // The checksum of 24 bytes that come as three words, the lowest byte of each first: the content of a header. (Words of any content, so no struct.)
+// Inlined, so that of words that are known, as the zeros of a new log, nothing is looked up.
+#[inline(always)]
 pub fn crc64_words(a: u64, b: u64, c: u64) -> u64
     ensures { result ≡ crc_of (le a ++ (le b ++ le c)) }
 {
